@@ -1,0 +1,202 @@
+-- The laws of sets told by membership, and of the falling list of a set's members. Assumes nothing.
+use mathlib.Core.Path.{_≡_, refl, sym, ap, ap₂, _∙_, subst, fun-ext}
+use mathlib.Core.Bool.{Bool, true, false, cond, _&&_}
+use mathlib.Core.Logic.{_⊎_, inl, inr, ⊎-elim}
+use mathlib.Core.List.{List, [], _∷_, _++_}
+use Prim.Native.Nat.{ℕ, zero, suc, _+_, _≤_, _<_}
+use native.Mathlib.Nat.{add-zero, add-suc}
+use native.Mathlib.Decide.{le-ind, decLt, ℕ-discrete}
+use native.Mathlib.Omega.{arith}
+use lib.Dec.{ltb, eqb}
+use lib.ListN.{length, getD}
+use borrow.Author.Tests.{lt-ltb, le-ltb, eq-eqb, ne-eqb}
+use Rattle.sets.specs.Sets.{Falls, Set, apart, below, differ, flip, flips, members, none, odd}
+
+-- ---- differ is a sum without carry
+
+pub differ-false : (a : Bool) → differ a false ≡ a
+differ-false true = refl
+differ-false false = refl
+
+pub differ-self : (a : Bool) → differ a a ≡ false
+differ-self true = refl
+differ-self false = refl
+
+pub differ-comm : (a b : Bool) → differ a b ≡ differ b a
+differ-comm true true = refl
+differ-comm true false = refl
+differ-comm false true = refl
+differ-comm false false = refl
+
+pub differ-assoc : (a b c : Bool) → differ (differ a b) c ≡ differ a (differ b c)
+differ-assoc true true true = refl
+differ-assoc true true false = refl
+differ-assoc true false c = refl
+differ-assoc false b c = refl
+
+pub differ-twice : (a b : Bool) → differ a (differ a b) ≡ b
+differ-twice a b = sym (differ-assoc a a b) ∙ ap (λ (x : Bool). differ x b) (differ-self a)
+
+-- ---- flips
+
+pub flip-at : (b : ℕ) (S : Set) → flip b S b ≡ differ true (S b)
+flip-at b S = ap (λ (x : Bool). differ x (S b)) (eq-eqb b b refl)
+
+pub flip-other : (b : ℕ) (S : Set) (p : ℕ) → (p ≡ b → ⊥) → flip b S p ≡ S p
+flip-other b S p h = ap (λ (x : Bool). differ x (S p)) (ne-eqb p b h)
+
+-- toggling twice is the identity
+pub flip-twice : (b : ℕ) (S : Set) → flip b (flip b S) ≡ S
+flip-twice b S = fun-ext (λ p. differ-twice (eqb p b) (S p))
+
+-- the flips of a list are one symmetric difference
+pub flips-odd : (bs : List ℕ) (S : Set) → flips bs S ≡ apart (odd bs) S
+flips-odd [] S = refl
+flips-odd (b ∷ bs) S =
+    flips-odd bs (flip b S) ∙ fun-ext (λ p.
+    sym (differ-assoc (odd bs p) (eqb p b) (S p)) ∙ ap (λ (x : Bool). differ x (S p)) (differ-comm (odd bs p) (eqb p b)))
+
+pub odd-append : (bs cs : List ℕ) (p : ℕ) → odd (bs ++ cs) p ≡ differ (odd bs p) (odd cs p)
+odd-append [] cs p = refl
+odd-append (b ∷ bs) cs p = ap (differ (eqb p b)) (odd-append bs cs p) ∙ sym (differ-assoc (eqb p b) (odd bs p) (odd cs p))
+
+-- two lists in which each bucket stands as often, but for even numbers, flip a set to the same set
+pub flips-same : (bs cs : List ℕ) (S : Set) → ((p : ℕ) → odd bs p ≡ odd cs p) → flips bs S ≡ flips cs S
+flips-same bs cs S h = flips-odd bs S ∙ fun-ext (λ p. ap (λ (x : Bool). differ x (S p)) (h p)) ∙ sym (flips-odd cs S)
+
+-- so the order does not matter
+pub flips-swap : (bs cs : List ℕ) (S : Set) → flips (bs ++ cs) S ≡ flips (cs ++ bs) S
+flips-swap bs cs S =
+    flips-same (bs ++ cs) (cs ++ bs) S
+    (λ p. odd-append bs cs p ∙ differ-comm (odd bs p) (odd cs p) ∙ sym (odd-append cs bs p))
+
+pub flips-append : (bs cs : List ℕ) (S : Set) → flips (bs ++ cs) S ≡ flips cs (flips bs S)
+flips-append [] cs S = refl
+flips-append (b ∷ bs) cs S = flips-append bs cs (flip b S)
+
+-- ---- below
+
+pub below-in : (b : ℕ) (S : Set) (p : ℕ) → p < b → below b S p ≡ S p
+below-in b S p h = ap (λ (x : Bool). _&&_ x (S p)) (lt-ltb p b h)
+
+pub below-out : (b : ℕ) (S : Set) (p : ℕ) → b ≤ p → below b S p ≡ false
+below-out b S p h = ap (λ (x : Bool). _&&_ x (S p)) (le-ltb p b h)
+
+-- ---- members
+
+-- two sets that agree below n have the same members
+pub members-same : (S R : Set) (n : ℕ) → ((p : ℕ) → p < n → S p ≡ R p) → members S n ≡ members R n
+unfolding members
+members-same S R zero h = refl
+members-same S R (suc n) h = rw (h n (omega arith), members-same S R n (λ p l. h p (omega arith)))
+
+-- with no member from m up to n
+pub members-gap : (S : Set) (m n : ℕ) → m ≤ n → ((p : ℕ) → m ≤ p → p < n → S p ≡ false) → members S n ≡ members S m
+unfolding members
+members-gap S m n l h =
+    le-ind (λ (k : ℕ). ((p : ℕ) → m ≤ p → p < k → S p ≡ false) → members S k ≡ members S m)
+    (λ _. refl)
+    (λ k ml ih hk. ap (λ (b : Bool). cond b (k ∷ members S k) (members S k)) (hk k ml (omega arith)) ∙ ih (λ p a b. hk p a (omega arith)))
+    n
+    l
+    h
+
+pub members-none : (S : Set) (n : ℕ) → ((p : ℕ) → p < n → S p ≡ false) → members S n ≡ []
+unfolding members
+members-none S n h = members-gap S 0 n (omega arith) (λ p a b. h p b)
+
+-- the largest member heads the list, and the members below it follow
+pub members-head : (S : Set) (p n : ℕ) → p < n → S p ≡ true → ((q : ℕ) → p < q → q < n → S q ≡ false) → members S n ≡ p ∷ members S p
+unfolding members
+members-head S p n l h g =
+    members-gap S (suc p) n l g ∙ ap (λ (b : Bool). cond b (p ∷ members S p) (members S p)) h
+
+pub falls-more : (l : List ℕ) {m n : ℕ} → m ≤ n → Falls m l → Falls n l
+falls-more [] h f = tt
+falls-more (x ∷ xs) h f = (omega (arith, f .0), f .1)
+
+-- the members fall from below n
+pub members-fall : (S : Set) (n : ℕ) → Falls n (members S n)
+unfolding members
+members-fall S zero = tt
+members-fall S (suc n) = go (S n) (members-fall S n)
+  where
+    go : (b : Bool) → Falls n (members S n) → Falls (suc n) (cond b (n ∷ members S n) (members S n))
+    go true f = (omega arith, f)
+    go false f = falls-more (members S n) (omega arith) f
+
+-- in a falling list nothing stands from its bound on
+pub odd-above : (l : List ℕ) (n p : ℕ) → Falls n l → n ≤ p → odd l p ≡ false
+odd-above [] n p f h = refl
+odd-above (x ∷ xs) n p f h =
+    ap₂ differ (ne-eqb p x (omega (arith, f .0))) (odd-above xs x p (f .1) (omega (arith, f .0)))
+
+below-more : (n : ℕ) (S : Set) (p : ℕ) → (p ≡ n → ⊥) → below n S p ≡ below (suc n) S p
+below-more n S p h = go (decLt p n)
+  where
+    go : Dec (p < n) → below n S p ≡ below (suc n) S p
+    go (yes l) = below-in n S p l ∙ sym (below-in (suc n) S p (omega arith))
+    go (no l) = below-out n S p (omega arith) ∙ sym (below-out (suc n) S p (omega arith))
+
+-- sound and complete: the members are the set below n
+pub members-odd : (S : Set) (n p : ℕ) → odd (members S n) p ≡ below n S p
+unfolding members
+members-odd S zero p = sym (below-out zero S p (omega arith))
+members-odd S (suc n) p = go (members-odd S n p) (S n) refl (ℕ-discrete p n)
+  where
+    go : odd (members S n) p ≡ below n S p → (b : Bool) → S n ≡ b → Dec (p ≡ n)
+        → odd (cond b (n ∷ members S n) (members S n)) p ≡ below (suc n) S p
+    go ih true e (yes q) =
+        ap₂ differ (eq-eqb p n q) (ih ∙ below-out n S p (omega arith))
+        ∙ sym e ∙ ap S (sym q) ∙ sym (below-in (suc n) S p (omega arith))
+    go ih true e (no q) = ap₂ differ (ne-eqb p n q) ih ∙ below-more n S p q
+    go ih false e (yes q) = ih ∙ below-out n S p (omega arith) ∙ sym e ∙ ap S (sym q) ∙ sym (below-in (suc n) S p (omega arith))
+    go ih false e (no q) = ih ∙ below-more n S p q
+
+-- a falling list with the same membership is the list of the members
+pub members-unique : (l : List ℕ) (S : Set) (n : ℕ) → Falls n l → ((p : ℕ) → p < n → odd l p ≡ S p) → l ≡ members S n
+members-unique [] S n f h = sym (members-none S n (λ p l. sym (h p l)))
+members-unique (x ∷ xs) S n f h =
+    ap (λ (l : List ℕ). x ∷ l) (members-unique xs S x (f .1)
+    (λ p l. ap (λ (b : Bool). differ b (odd xs p)) (sym (ne-eqb p x (omega arith))) ∙ h p (omega (arith, f .0))))
+    ∙ sym (members-head S x n (f .0)
+    (sym (h x (f .0)) ∙ ap₂ differ (eq-eqb x x refl) (odd-above xs x x (f .1) (omega arith)))
+    (λ q a b. sym (h q b) ∙ ap₂ differ (ne-eqb q x (omega arith)) (odd-above xs x q (f .1) (omega arith))))
+
+-- ---- how many
+
+pub members-length : (S : Set) (n : ℕ) → length (members S n) ≤ n
+unfolding members
+members-length S zero = omega arith
+members-length S (suc n) = go (S n) (members-length S n)
+  where
+    go : (b : Bool) → length (members S n) ≤ n → length (cond b (n ∷ members S n) (members S n)) ≤ suc n
+    go true h = omega arith
+    go false h = omega arith
+
+-- the members below a + n are those below a and those of the n buckets from a on
+pub members-count : (S : Set) (a n : ℕ) → length (members S (a + n)) ≡ length (members S a) + length (members (λ j. S (a + j)) n)
+unfolding members
+members-count S a zero =
+    ap (λ (x : ℕ). length (members S x)) (add-zero a) ∙ sym (add-zero (length (members S a)))
+members-count S a (suc n) =
+    ap (λ (x : ℕ). length (members S x)) (add-suc a n) ∙ go (S (a + n)) (members-count S a n)
+  where
+    go : (b : Bool) → length (members S (a + n)) ≡ length (members S a) + length (members (λ j. S (a + j)) n)
+        → length (cond b ((a + n) ∷ members S (a + n)) (members S (a + n)))
+        ≡ length (members S a) + length (cond b (n ∷ members (λ j. S (a + j)) n) (members (λ j. S (a + j)) n))
+    go true h = omega arith
+    go false h = h
+
+-- ---- a set made of a falling list and of what stands below it (what a reader of rows builds)
+
+pub falls-append : (xs ys : List ℕ) (n e : ℕ) → Falls n xs → e ≤ n → ((i : ℕ) → i < length xs → e ≤ getD xs i 0) → Falls e ys → Falls n (xs ++ ys)
+falls-append [] ys n e f l h g = falls-more ys l g
+falls-append (x ∷ xs) ys n e f l h g =
+    (f .0, falls-append xs ys x e (f .1) (h 0 (omega arith)) (λ i a. h (suc i) (omega arith)) g)
+
+pub members-join : (xs : List ℕ) (R : Set) (n e : ℕ) → Falls n xs → e ≤ n → ((i : ℕ) → i < length xs → e ≤ getD xs i 0)
+    → members (apart (odd xs) (below e R)) n ≡ xs ++ members R e
+members-join xs R n e f l h =
+    sym (members-unique (xs ++ members R e) (apart (odd xs) (below e R)) n (falls-append xs (members R e) n e f l h (members-fall R e))
+    (λ p a. odd-append xs (members R e) p ∙ ap (differ (odd xs p)) (members-odd R e p)))

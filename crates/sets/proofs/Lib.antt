@@ -1,0 +1,8 @@
+-- The laws of the definitions of specs/.
+pub mod Laws
+pub mod Words
+pub mod Lift
+pub mod Lists
+pub mod Filters
+pub mod Shown
+pub mod Canon
