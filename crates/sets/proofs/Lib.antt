@@ -6,3 +6,4 @@ pub mod Lists
 pub mod Filters
 pub mod Shown
 pub mod Canon
+pub mod Edges

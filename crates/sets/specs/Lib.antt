@@ -6,3 +6,4 @@ pub mod Masks
 pub mod Row
 pub mod Refusals
 pub mod Text
+pub mod Edges
