@@ -1,15 +1,34 @@
--- The cases of 01's edges, computed. Assumes nothing.
+-- The cases of 01's edges, and ours, computed. Assumes nothing.
 use lib.Dec.{T}
-use lib.Bits.{bitXor}
 use Rattle.sets.specs.Sets.{members, from}
 use Rattle.sets.specs.Words.{digit, word, held}
-use Rattle.sets.specs.Configurations.{known, configAt}
-use Rattle.sets.specs.Filter.{topCells, bitCells, low, limitedCount, limitedBound}
+use Rattle.sets.specs.Configurations.{configAt}
+use Rattle.sets.specs.Filter.{topCells, bitCells, isFilterOf, isFilter, isBuilder, low, limitedCount, limitedBound}
 use Rattle.sets.specs.Masks.{orderOf, packed, keyOf}
-use Rattle.sets.specs.Row.{bitPart, row, rowEntries, rowBlocks, shownRow, lengthFits, entriesFit, fallFault, countFault, spareFault, highFault}
+use Rattle.sets.specs.Row.{
+  bitPart,
+  row,
+  rowEntries,
+  rowBlocks,
+  shownRow,
+  lengthFits,
+  entriesFit,
+  fallFault,
+  countFault,
+  spareFault,
+  highFault,
+}
 use Rattle.sets.specs.Text.{configLine, maskLine, rowLine, overlap, compared, judgedRows, judgedInput, compareText}
-use Rattle.sets.specs.Edges.{down, holds, each, cases}
+use Rattle.sets.specs.Edges.{down, holds, each, figures, cases, traps}
 
-pub all-hold : T (each cases)
-unfolding members from digit word held known configAt topCells bitCells low limitedCount limitedBound orderOf packed keyOf bitPart row rowEntries rowBlocks shownRow lengthFits entriesFit fallFault countFault spareFault highFault down holds each cases
-all-hold = tt
+pub figures-hold : T (each figures)
+unfolding holds each figures
+figures-hold = tt
+
+pub cases-hold : T (each cases)
+unfolding members from digit word held low limitedCount limitedBound packed keyOf bitPart row rowEntries rowBlocks shownRow lengthFits entriesFit fallFault countFault spareFault highFault down holds each cases
+cases-hold = tt
+
+pub traps-hold : T (each traps)
+unfolding members from digit word held configAt topCells bitCells isFilterOf isFilter isBuilder low limitedCount limitedBound orderOf packed keyOf bitPart row rowEntries rowBlocks shownRow lengthFits entriesFit fallFault countFault spareFault highFault configLine maskLine rowLine overlap compared judgedRows judgedInput compareText down holds each traps
+traps-hold = tt
