@@ -1,4 +1,5 @@
 -- The laws of the definitions of specs/.
+pub mod Configurations
 pub mod Laws
 pub mod Words
 pub mod Lift

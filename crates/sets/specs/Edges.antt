@@ -199,13 +199,9 @@ traps =
     ∷ faultsAt (bytesOf 2 (down 12 1) ++ 63 ∷ 2 ∷ replicate 7 0) (25 ∷ [])
     ∷ faultsAt (bytesOf 2 (down 12 1) ++ 63 ∷ replicate 6 0 ++ 1 ∷ 1 ∷ []) (31 ∷ [])
     ∷ shows (bytesOf 2 (down 12 1) ++ 63 ∷ 1 ∷ replicate 7 0) (down 13 0)
-    -- a record that counts too few or too many, a boundary without a full list, a bit at the boundary, an entry twice
-    ∷ isFilterIs [] [] 0 0 true
-    ∷ isFilterIs (5 ∷ []) [] 1 0 true
+    -- a nonzero unused cell, a boundary without a full list, a bit below the boundary and one at it
     ∷ isFilterIs (5 ∷ []) [] 0 0 false
-    ∷ isFilterIs (5 ∷ []) [] 13 0 false
     ∷ isFilterIs (5 ∷ []) [] 1 5 false
-    ∷ isFilterIs (5 ∷ 5 ∷ []) [] 2 0 false
     ∷ isFilterIs (down 12 1) (1 ∷ []) 12 1 true
     ∷ isFilterIs (down 12 1) (2 ∷ []) 12 1 false
     -- a builder: full, over-full, split at W and above, a bit at the split, a bucket of W, a nonzero unused cell
