@@ -7,4 +7,8 @@ pub mod Lists
 pub mod Filters
 pub mod Shown
 pub mod Canon
+pub mod Masks
+pub mod Order
+pub mod Keys
+pub mod Reader
 pub mod Edges
