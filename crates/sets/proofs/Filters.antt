@@ -85,14 +85,20 @@ falls-at (x ∷ xs) n (suc i) f h = omega (arith, falls-at xs x i (f .1) (omega 
 
 -- ---- what the areas of a filter tell
 
+pub length-top : (m n : ℕ) (S : Set) → length (topCells m n S) ≡ m
+unfolding topCells
+length-top m n S = length-tabulate m _
+
+pub length-bits : (m n k : ℕ) (S : Set) → length (bitCells m n k S) ≡ k
+unfolding bitCells
+length-bits m n k S = length-tabulate k _
+
 module _ {m k : ℕ} {top blocks : List ℕ} {count edge : ℕ} {S : Set} (H : Holds m k top blocks count edge S) where
   pub holds-room-top : m ≤ length top
-  unfolding topCells
-  holds-room-top = omega (arith, length-take m top, ap length (H .tops) ∙ length-tabulate m _)
+  holds-room-top = omega (arith, length-take m top, ap length (H .tops) ∙ length-top m (64 * k) S)
 
   pub holds-room-bits : k ≤ length blocks
-  unfolding bitCells
-  holds-room-bits = omega (arith, length-take k blocks, ap length (H .bits) ∙ length-tabulate k _)
+  holds-room-bits = omega (arith, length-take k blocks, ap length (H .bits) ∙ length-bits m (64 * k) k S)
 
   -- a top cell is a member
   pub top-at : (i : ℕ) → i < m → getD top i 0 ≡ getD (members S (64 * k)) i 0

@@ -6,15 +6,13 @@ use Prim.Native.Nat.{ℕ, zero, suc, _+_, _-_, _*_, _^_, _≤_, _<_}
 use native.Mathlib.Nat.{div-add-mod', mod-lt, mul-le-mul-right, suc-mul, zero-div}
 use native.Mathlib.Decide.{ℕ-discrete}
 use native.Mathlib.Omega.{arith}
-use lib.ListN.{getD, take, drop, length-take}
-use lib.Seq.{getD-take}
+use lib.ListN.{getD, drop}
 use lib.Pow.{pow-pos, pow-add, shr-lt, shr-mono}
 use Rattle.sets.specs.Sets.{Below, Falls, Set, members}
 use Rattle.sets.specs.Configurations.{Config, W, positionBits, wholeSlots, leftoverBits}
-use Rattle.sets.specs.Masks.{Ordering, less, equal, greater, kept, keyOf, orderOf, packed, slotsFit}
+use Rattle.sets.specs.Masks.{Ordering, less, equal, greater, kept, keyOf, orderOf, packed}
 use Rattle.sets.proofs.Laws.{members-fall, members-same}
 use Rattle.sets.proofs.Filters.{falls-at}
-use Rattle.sets.proofs.Shown.{below-all}
 use Rattle.sets.proofs.Order.{Leads, opposite, order-swap, order-told}
 
 head-lt : {n : ℕ} (ps : List ℕ) → 0 < n → Below n ps → getD ps 0 0 < n
@@ -101,16 +99,6 @@ module _ (c : Config) where
     kept-below : (S : Set) → Below (2 ^ positionBits c) (members (kept mask size S) (W c))
     kept-below S =
         falls-below (members (kept mask size S) (W c)) (members-fall (kept mask size S) (W c)) (omega (arith, W-lt c))
-
-    -- every kept bucket fits its slot, so number 10 is never given
-    pub slots-fit : (S : Set) → slotsFit c mask size S ≡ true
-    unfolding slotsFit
-    slots-fit S =
-        let ps : List ℕ = members (kept mask size S) (W c) in
-        let k : ℕ = suc (wholeSlots c) in
-        below-all (2 ^ positionBits c) (take k ps) (λ i h.
-        let l : i < k = omega (arith, length-take k ps) in
-        rw (getD-take k ps i 0 l) (kept-below S i (omega (arith, length-take k ps))))
 
     pub key-lt : (S : Set) → keyOf c mask size S < 2 ^ 64
     unfolding keyOf

@@ -70,6 +70,28 @@ flips-swap bs cs S =
     flips-same (bs ++ cs) (cs ++ bs) S
     (λ p. odd-append bs cs p ∙ differ-comm (odd bs p) (odd cs p) ∙ sym (odd-append cs bs p))
 
+-- ---- symmetric difference
+
+pub apart-comm : (S T : Set) → apart S T ≡ apart T S
+apart-comm S T = fun-ext (λ p. differ-comm (S p) (T p))
+
+pub apart-assoc : (S T R : Set) → apart (apart S T) R ≡ apart S (apart T R)
+apart-assoc S T R = fun-ext (λ p. differ-assoc (S p) (T p) (R p))
+
+pub apart-self : (S : Set) → apart S S ≡ none
+apart-self S = fun-ext (λ p. differ-self (S p))
+
+pub apart-none : (S : Set) → apart S none ≡ S
+apart-none S = fun-ext (λ p. differ-false (S p))
+
+-- two lists joined flip to the symmetric difference of what each flips to
+pub flips-joined : (bs cs : List ℕ) → flips (bs ++ cs) none ≡ apart (flips bs none) (flips cs none)
+flips-joined bs cs =
+    flips-odd (bs ++ cs) none
+    ∙ apart-none (odd (bs ++ cs))
+    ∙ fun-ext (odd-append bs cs)
+    ∙ sym (ap₂ apart (flips-odd bs none ∙ apart-none (odd bs)) (flips-odd cs none ∙ apart-none (odd cs)))
+
 pub flips-append : (bs cs : List ℕ) (S : Set) → flips (bs ++ cs) S ≡ flips cs (flips bs S)
 flips-append [] cs S = refl
 flips-append (b ∷ bs) cs S = flips-append bs cs (flip b S)

@@ -7,8 +7,10 @@ pub mod Lists
 pub mod Filters
 pub mod Shown
 pub mod Canon
+pub mod Counts
 pub mod Masks
 pub mod Order
+pub mod Areas
 pub mod Keys
 pub mod Reader
 pub mod Edges

@@ -6,16 +6,12 @@ use native.Mathlib.Nat.{add-mod-right}
 use lib.Bits.{bitAnd, and-comm}
 use Rattle.sets.specs.Sets.{Set, apart, differ}
 use Rattle.sets.specs.Words.{blockAt, digit}
-use Rattle.sets.specs.Masks.{kept}
+use Rattle.sets.specs.Masks.{kept, laid}
 use Rattle.sets.proofs.Shown.{and-left, and-right}
 use Rattle.sets.proofs.Words.{digit-zero, digit-word, word-both}
 
 pub kept-zero : (size : ℕ) (S : Set) (p : ℕ) → kept 0 size S p ≡ false
 kept-zero size S p = ap (λ (b : Bool). _&&_ b (S p)) (digit-zero (p % size))
-
--- the mask's digits, laid end to end over all buckets
-abbrev pub laid : ℕ → ℕ → Set
-laid mask size p = digit mask (p % size)
 
 pub laid-again : (mask size p : ℕ) → laid mask size (p + size) ≡ laid mask size p
 laid-again mask size p = ap (digit mask) (add-mod-right p size)

@@ -15,7 +15,7 @@ use lib.Bits.{bitAnd, bitXor, and-shr, and-step, and-lt, xor-shr, xor-step, xor-
 use lib.Count.{ones, onesIn, ones-cat, ones-step, leadingZeros, leading-top}
 use borrow.Author.Tests.{lt-ltb, le-ltb, eq-eqb, ne-eqb}
 use Rattle.sets.specs.Sets.{Below, Set, apart, below, differ, flip, flips, members, none}
-use Rattle.sets.specs.Words.{TopDigit, bit, digit, flipBit, flipBits, held, word}
+use Rattle.sets.specs.Words.{TopDigit, bit, blockAt, digit, flipBit, flipBits, held, word}
 use Rattle.sets.proofs.Laws.{differ-false, differ-comm, flip-other}
 
 -- ---- digits
@@ -310,6 +310,11 @@ top-digit w p h =
       isSet = ap (λ (x : ℕ). eqb (x % 2) 1) (div-eq-of-lt-le {k = 1} (2 ^ (t .0)) (omega (arith, t .2)) (omega (arith, t .3, pow-suc 2 (t .0))));
       above = λ q l. digit-past w q (lt-of-lt-of-le (t .3) (pow-mono l));
     })
+
+-- in a block of a set it is the largest member
+pub top-member : (S : Set) (i j : ℕ) → TopDigit (blockAt S i) j → (S (64 * i + j) ≡ true) × ((q : ℕ) → j < q → q < 64 → S (64 * i + q) ≡ false)
+top-member S i j t =
+    (sym (digit-word S (64 * i) 64 j (t .small)) ∙ t .isSet, λ q l h. sym (digit-word S (64 * i) 64 q h) ∙ t .above q l)
 
 -- the set seen from a bucket on
 abbrev pub seen : ℕ → Set → Set

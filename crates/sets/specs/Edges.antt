@@ -4,7 +4,7 @@ use mathlib.Core.List.{List, [], _∷_, _++_}
 use Prim.Native.Nat.{ℕ, zero, suc, _+_, _*_, _%_}
 use Prim.Native.String.{String}
 use lib.Dec.{eqb}
-use lib.ListN.{length, getD, replicate}
+use lib.ListN.{length, getD, take, drop, replicate}
 use Rattle.sets.specs.Sets.{Set, none, differ, flips, members, same}
 use Rattle.sets.specs.Configurations.{
   Config,
@@ -19,9 +19,9 @@ use Rattle.sets.specs.Configurations.{
   wholeSlots,
   leftoverBits,
 }
-use Rattle.sets.specs.Filter.{boundary, isFilter, isBuilder, limitedCountAt, limitedBoundAt}
+use Rattle.sets.specs.Filter.{boundary, isFilter, isBuilder, exactCountAt, limitedCountAt, limitedBoundAt}
 use Rattle.sets.specs.Masks.{Ordering, less, equal, greater, kept, orderOf, packed, keyOf}
-use Rattle.sets.specs.Row.{bytesOf, row, shownRow, Fault, nowhere, place, fallFault, countFault, spareFault, highFault}
+use Rattle.sets.specs.Row.{little, bytesOf, row, shownRow, Fault, nowhere, place, fallFault, countFault, spareFault, highFault}
 use Rattle.sets.specs.Refusals.{Verdict, taken, refused, verdict, areBuckets, isMask, isRowOf}
 use Rattle.sets.specs.Text.{text, orderWord, compareText}
 
@@ -54,10 +54,11 @@ pub data Case : Type 0 where
   refusesRow : (bytes : List ℕ) (number : ℕ) → Case
   -- where the four tests of refusal 5 find their faults, in their order
   faultsAt : (bytes places : List ℕ) → Case
-  -- these buckets have a row of this length, this boundary, this spare byte, and this first byte of the lowest block
+  -- these buckets have a row of this length, this boundary, this spare byte and this lowest block
   bitPartIs : (toggled : List ℕ) (length boundary spare block : ℕ) → Case
   -- the list to toggle is refused with this number, 0 for taken
   refusesList : (list : List ℕ) (number : ℕ) → Case
+  exactIs : (toggled : List ℕ) (count : ℕ) → Case
   limitedIs : (toggled : List ℕ) (count bound : ℕ) → Case
   -- of a filter that holds all buckets the mask keeps this one, or drops it
   keeps : (mask size bucket : ℕ) (answer : Bool) → Case
@@ -71,6 +72,8 @@ pub data Case : Type 0 where
   isFilterIs : (top blocks : List ℕ) (count boundary : ℕ) (answer : Bool) → Case
   isBuilderIs : (pending blocks : List ℕ) (count split : ℕ) (answer : Bool) → Case
   prints : (input output : String) → Case
+  -- so many newlines and nothing else
+  printsBlank : (newlines : ℕ) (output : String) → Case
 
 unfoldable pub holds : Case → Bool
 holds (figuresAre c figures) =
@@ -91,8 +94,9 @@ holds (faultsAt bytes places) =
 holds (bitPartIs toggled long edge spare block) =
     let bytes = row seven (set toggled) in
     eqb (length bytes) long
-    && (eqb (boundary 12 8320 (set toggled)) edge && (eqb (getD bytes 24 0) spare && eqb (getD bytes 25 0) block))
+    && (eqb (boundary 12 8320 (set toggled)) edge && (eqb (getD bytes 24 0) spare && eqb (little (take 8 (drop 25 bytes))) block))
 holds (refusesList list number) = eqb (refusedBy (verdict (areBuckets seven list ∷ []))) number
+holds (exactIs toggled count) = eqb (exactCountAt seven (set toggled)) count
 holds (limitedIs toggled count bound) =
     eqb (limitedCountAt seven (set toggled)) count && eqb (limitedBoundAt seven (set toggled)) bound
 holds (keeps mask size bucket answer) = not (differ (kept mask size (λ p. true) bucket) answer)
@@ -107,6 +111,7 @@ holds (isFilterIs top bits count edge answer) =
 holds (isBuilderIs pending bits count split answer) =
     not (differ (isBuilder 12 8320 (pending ++ replicate 24 0) (bits ++ replicate 130 0) count split) answer)
 holds (prints input output) = same (compareText (text input)) (text output)
+holds (printsBlank newlines output) = same (compareText (replicate newlines 10)) (text output)
 
 unfoldable pub each : List Case → Bool
 each [] = true
@@ -162,6 +167,8 @@ unfoldable pub traps : List Case
 traps =
     -- the window hangs on the last top entry, not on the highest bucket
     limitedIs (8319 ∷ down 11 2 ++ 0 ∷ []) 13 0
+    -- where the bound is 0 the limited count may be below the exact one: 12 in P's case
+    ∷ exactIs (down 12 8308 ++ 7615 ∷ []) 13
     -- a zero slot proves nothing: {5} and {5, 0} share a key, and the order tells them apart
     ∷ keyIs (5 ∷ []) 1 1 5629499534213120
     ∷ keyIs (5 ∷ 0 ∷ []) 1 1 5629499534213120
@@ -240,4 +247,7 @@ traps =
     ∷ prints "config 7\nmask 1 1\n\n0500" "refused 11 4\n"
     ∷ prints "config 7\nmask 1 1\n\n0c000b000a00090008000700060005000400030002000100\nx" "refused 5 4\n"
     ∷ prints "config 7\nmask 1 1\n\n\n\n" "refused 11 5\n"
+    -- 40,000 bytes are judged, and one more is not
+    ∷ printsBlank 40000 "refused 11 1\n"
+    ∷ printsBlank 40001 "refused 11 0\n"
     ∷ []

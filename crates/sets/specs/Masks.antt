@@ -8,9 +8,13 @@ use Rattle.sets.specs.Sets.{Set, apart, members, allBelow}
 use Rattle.sets.specs.Words.{digit}
 use Rattle.sets.specs.Configurations.{Config, W, positionBits, wholeSlots, leftoverBits}
 
+-- the mask's digits, laid end to end over all buckets
+abbrev pub laid : ℕ → ℕ → Set
+laid mask size p = digit mask (p % size)
+
 -- 01: "Bucket p is kept when bit p mod size of the mask is set. Mask 0 keeps none."
 abbrev pub kept : ℕ → ℕ → Set → Set
-kept mask size S p = digit mask (p % size) && S p
+kept mask size S p = laid mask size p && S p
 
 -- 01, refusal 6: "mask size is not 1 to 63"; the largest size stands here alone
 abbrev pub largestMaskSize : ℕ
