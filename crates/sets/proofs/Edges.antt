@@ -3,7 +3,7 @@ use lib.Dec.{T}
 use Rattle.sets.specs.Sets.{members, from}
 use Rattle.sets.specs.Words.{digit, word, held}
 use Rattle.sets.specs.Configurations.{configAt}
-use Rattle.sets.specs.Filter.{topCells, bitCells, isFilterOf, isFilter, isBuilder, low, limitedCount, limitedBound}
+use Rattle.sets.specs.Filter.{isBuilder, low, limitedCount, limitedBound}
 use Rattle.sets.specs.Masks.{orderOf, packed, keyOf}
 use Rattle.sets.specs.Row.{
   bitPart,
@@ -30,5 +30,5 @@ unfolding members from digit word held low limitedCount limitedBound packed keyO
 cases-hold = tt
 
 pub traps-hold : T (each traps)
-unfolding members from digit word held configAt topCells bitCells isFilterOf isFilter isBuilder low limitedCount limitedBound orderOf packed keyOf bitPart row rowEntries rowBlocks shownRow lengthFits entriesFit fallFault countFault spareFault highFault configLine maskLine rowLine overlap compared judgedRows judgedInput compareText down holds each traps
+unfolding members from digit word held configAt isBuilder low limitedCount limitedBound orderOf packed keyOf bitPart row rowEntries rowBlocks shownRow lengthFits entriesFit fallFault countFault spareFault highFault configLine maskLine rowLine overlap compared judgedRows judgedInput compareText down holds each traps
 traps-hold = tt

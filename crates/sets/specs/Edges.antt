@@ -19,7 +19,7 @@ use Rattle.sets.specs.Configurations.{
   wholeSlots,
   leftoverBits,
 }
-use Rattle.sets.specs.Filter.{boundary, isFilter, isBuilder, exactCountAt, limitedCountAt, limitedBoundAt}
+use Rattle.sets.specs.Filter.{boundary, isBuilder, exactCountAt, limitedCountAt, limitedBoundAt}
 use Rattle.sets.specs.Masks.{Ordering, less, equal, greater, kept, orderOf, packed, keyOf}
 use Rattle.sets.specs.Row.{little, bytesOf, row, shownRow, Fault, nowhere, place, fallFault, countFault, spareFault, highFault}
 use Rattle.sets.specs.Refusals.{Verdict, taken, refused, verdict, areBuckets, isMask, isRowOf}
@@ -68,8 +68,7 @@ pub data Case : Type 0 where
   -- the key of these kept buckets
   packs : (c : Config) (kept : List ℕ) (key : ℕ) → Case
   orderIs : (first second : List ℕ) (mask size : ℕ) (answer : Ordering) → Case
-  -- with zeros behind these first cells, record and areas are some set's filter, or a sound builder, or not
-  isFilterIs : (top blocks : List ℕ) (count boundary : ℕ) (answer : Bool) → Case
+  -- with zeros behind these first cells, a builder is sound, or not
   isBuilderIs : (pending blocks : List ℕ) (count split : ℕ) (answer : Bool) → Case
   prints : (input output : String) → Case
   -- so many newlines and nothing else
@@ -106,8 +105,6 @@ holds (keyLowByteIs toggled mask size byte) = eqb (keyOf seven mask size (set to
 holds (packs c ps key) = eqb (packed (positionBits c) (leftoverBits c) (wholeSlots c) ps) key
 holds (orderIs first second mask size answer) =
     same (orderWord (orderOf (W seven) mask size (set first) (set second))) (orderWord answer)
-holds (isFilterIs top bits count edge answer) =
-    not (differ (isFilter 12 130 (top ++ replicate 12 0) (bits ++ replicate 130 0) count edge) answer)
 holds (isBuilderIs pending bits count split answer) =
     not (differ (isBuilder 12 8320 (pending ++ replicate 24 0) (bits ++ replicate 130 0) count split) answer)
 holds (prints input output) = same (compareText (text input)) (text output)
@@ -206,11 +203,6 @@ traps =
     ∷ faultsAt (bytesOf 2 (down 12 1) ++ 63 ∷ 2 ∷ replicate 7 0) (25 ∷ [])
     ∷ faultsAt (bytesOf 2 (down 12 1) ++ 63 ∷ replicate 6 0 ++ 1 ∷ 1 ∷ []) (31 ∷ [])
     ∷ shows (bytesOf 2 (down 12 1) ++ 63 ∷ 1 ∷ replicate 7 0) (down 13 0)
-    -- a nonzero unused cell, a boundary without a full list, a bit below the boundary and one at it
-    ∷ isFilterIs (5 ∷ []) [] 0 0 false
-    ∷ isFilterIs (5 ∷ []) [] 1 5 false
-    ∷ isFilterIs (down 12 1) (1 ∷ []) 12 1 true
-    ∷ isFilterIs (down 12 1) (2 ∷ []) 12 1 false
     -- a builder: full, over-full, split at W and above, a bit at the split, a bucket of W, a nonzero unused cell
     ∷ isBuilderIs (replicate 24 8319) [] 24 8320 true
     ∷ isBuilderIs (replicate 25 8319) [] 25 0 false
