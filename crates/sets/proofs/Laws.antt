@@ -8,7 +8,7 @@ use native.Mathlib.Nat.{add-zero, add-suc}
 use native.Mathlib.Decide.{le-ind, decLt, ℕ-discrete}
 use native.Mathlib.Omega.{arith}
 use lib.Dec.{ltb, eqb}
-use lib.ListN.{length, getD}
+use lib.ListN.{length, getD, take}
 use borrow.Author.Tests.{lt-ltb, le-ltb, eq-eqb, ne-eqb}
 use Rattle.sets.specs.Sets.{Falls, Set, apart, below, differ, flip, flips, members, none, odd}
 
@@ -82,6 +82,13 @@ below-in b S p h = ap (λ (x : Bool). _&&_ x (S p)) (lt-ltb p b h)
 pub below-out : (b : ℕ) (S : Set) (p : ℕ) → b ≤ p → below b S p ≡ false
 below-out b S p h = ap (λ (x : Bool). _&&_ x (S p)) (le-ltb p b h)
 
+pub below-same : (b : ℕ) (S R : Set) → ((p : ℕ) → p < b → S p ≡ R p) → (p : ℕ) → below b S p ≡ below b R p
+below-same b S R h p = go (decLt p b)
+  where
+    go : Dec (p < b) → below b S p ≡ below b R p
+    go (yes l) = ap (_&&_ (ltb p b)) (h p l)
+    go (no l) = below-out b S p (omega arith) ∙ sym (below-out b R p (omega arith))
+
 -- ---- members
 
 -- two sets that agree below n have the same members
@@ -114,6 +121,26 @@ members-head S p n l h g =
 pub falls-more : (l : List ℕ) {m n : ℕ} → m ≤ n → Falls m l → Falls n l
 falls-more [] h f = tt
 falls-more (x ∷ xs) h f = (omega (arith, f .0), f .1)
+
+pub falls-take : (l : List ℕ) (n m : ℕ) → Falls n l → Falls n (take m l)
+falls-take [] n zero f = tt
+falls-take [] n (suc m) f = tt
+falls-take (x ∷ xs) n zero f = tt
+falls-take (x ∷ xs) n (suc m) f = (f .0, falls-take xs x m (f .1))
+
+-- under the bucket at i there is room for the i before it
+pub falls-room : (l : List ℕ) (n i : ℕ) → Falls n l → i < length l → getD l i 0 + i < n
+falls-room [] n i f h = absurd (omega arith)
+falls-room (x ∷ xs) n zero f h = omega (arith, f .0)
+falls-room (x ∷ xs) n (suc i) f h = omega (arith, falls-room xs x i (f .1) (omega arith), f .0)
+
+-- a later bucket is smaller
+pub falls-order : (l : List ℕ) (n i j : ℕ) → Falls n l → i ≤ j → j < length l → getD l j 0 ≤ getD l i 0
+falls-order [] n i j f h a = absurd (omega arith)
+falls-order (x ∷ xs) n zero zero f h a = omega arith
+falls-order (x ∷ xs) n zero (suc j) f h a = omega (arith, falls-room xs x j (f .1) (omega arith))
+falls-order (x ∷ xs) n (suc i) zero f h a = absurd (omega arith)
+falls-order (x ∷ xs) n (suc i) (suc j) f h a = falls-order xs x i j (f .1) (omega arith) (omega arith)
 
 -- the members fall from below n
 pub members-fall : (S : Set) (n : ℕ) → Falls n (members S n)

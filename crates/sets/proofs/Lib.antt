@@ -6,4 +6,5 @@ pub mod Lists
 pub mod Filters
 pub mod Shown
 pub mod Canon
+pub mod Bytes
 pub mod Edges

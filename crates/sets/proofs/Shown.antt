@@ -1,17 +1,18 @@
 -- A record with its areas is some set's filter exactly when `isFilter` computes true, and the set is the one shown. Assumes nothing.
 use mathlib.Core.Path.{_≡_, refl, sym, ap, ap₂, _∙_, subst, fun-ext}
 use mathlib.Core.Bool.{Bool, true, false, true≢false, _&&_, _||_}
-use mathlib.Core.List.{List, [], _∷_, _++_}
+use mathlib.Core.List.{List, [], _∷_, _++_, append-nil}
 use Prim.Native.Nat.{ℕ, zero, suc, _+_, _-_, _*_, _≤_, _<_}
 use native.Mathlib.Decide.{decLt, ℕ-discrete}
 use native.Mathlib.Omega.{arith}
 use lib.Dec.{ltb, eqb}
-use lib.ListN.{length, getD, take, drop, take-append-drop}
+use lib.ListN.{length, getD, take, drop, length-take, take-append-drop, List·getD-eq-default}
+use lib.Seq.{getD-take, take-all, take-at}
 use borrow.Author.Tests.{lt-ltb, le-ltb, eq-eqb, ne-eqb, ltb-true, eqb-true}
 use Rattle.sets.specs.Sets.{Below, Falls, Set, allBelow, among, below, differ, members, odd, same}
 use Rattle.sets.specs.Words.{held}
 use Rattle.sets.specs.Filter.{Holds, bitCells, boundary, isFilter, isFilterOf, shown, topCells, topCount}
-use Rattle.sets.proofs.Laws.{odd-above, members-odd, members-fall, below-in, below-out}
+use Rattle.sets.proofs.Laws.{odd-above, members-odd, members-fall, members-unique, falls-take, falls-room, falls-order, falls-append, below-in, below-out, below-same}
 use Rattle.sets.proofs.Filters.{drop-edge, holds-tops, holds-bits, holds-same}
 
 -- ---- the computed tests
@@ -26,10 +27,6 @@ and-right false b h = absurd (true≢false (sym h))
 
 pub and-intro : (a b : Bool) → a ≡ true → b ≡ true → _&&_ a b ≡ true
 and-intro a b h l = ap₂ _&&_ h l
-
-and-twice : (a b : Bool) → _&&_ a (_&&_ a b) ≡ _&&_ a b
-and-twice true b = refl
-and-twice false b = refl
 
 or-assoc : (a b c : Bool) → _||_ a (_||_ b c) ≡ _||_ (_||_ a b) c
 or-assoc true b c = refl
@@ -79,27 +76,102 @@ falls-among (x ∷ xs) n p f = go (falls-among xs x p (f .1)) (ℕ-discrete p x)
 pub members-among : (S : Set) (n p : ℕ) → among (members S n) p ≡ below n S p
 members-among S n p = falls-among (members S n) n p (members-fall S n) ∙ members-odd S n p
 
--- ---- the set shown
+-- what is under every bucket listed is not listed
+among-under : (l : List ℕ) (e p : ℕ) → ((i : ℕ) → i < length l → e ≤ getD l i 0) → p < e → among l p ≡ false
+among-under [] e p h a = refl
+among-under (x ∷ xs) e p h a =
+    ap₂ _||_ (ne-eqb p x (omega (arith, h 0 (omega arith)))) (among-under xs e p (λ i b. h (suc i) (omega arith)) a)
 
-module _ {m k : ℕ} {top blocks : List ℕ} {count edge : ℕ} {S : Set} (H : Holds m k top blocks count edge S) where
-  -- the bits below the boundary are the members past the m largest
-  bits-among : (p : ℕ) → 0 < m → p < 64 * k → below edge (held blocks) p ≡ among (drop m (members S (64 * k))) p
-  bits-among p z h =
-      let e : ℕ = boundary m (64 * k) S in
-      ap₂ (λ (x : ℕ) (b : Bool). _&&_ (ltb p x) b) (H .edgeIs) (holds-bits H p h)
-      ∙ and-twice (ltb p e) (S p)
-      ∙ sym (members-among S e p)
-      ∙ ap (λ (l : List ℕ). among l p) (sym (drop-edge S m (64 * k) z))
+-- ---- a set split at its m largest members: the list of these, and what stands below the edge
 
-  -- a filter shows its set
-  pub shown-set : 0 < m → (p : ℕ) → p < 64 * k → shown top blocks count edge p ≡ S p
-  shown-set z p h =
-      let l : List ℕ = members S (64 * k) in
-      ap₂ _||_ (ap (λ (x : List ℕ). among x p) (holds-tops H)) (bits-among p z h)
+-- p is listed, or below the edge and in R
+abbrev pub joined : List ℕ → ℕ → Set → Set
+joined xs edge R p = _||_ (among xs p) (below edge R p)
+
+-- Buckets below n that some set has for its m largest members, and its boundary with them.
+pub record Split (m n : ℕ) (xs : List ℕ) (edge : ℕ) : Type 0 where
+  pub few : length xs ≤ m
+  pub falling : Falls n xs
+  pub edgeIs : edge ≡ getD xs (m - 1) 0
+
+module _ (m n : ℕ) (z : 0 < m) (S : Set) where
+  pub set-split : Split m n (take m (members S n)) (boundary m n S)
+  set-split =
+      record {
+        few = omega (arith, length-take m (members S n));
+        falling = falls-take (members S n) n m (members-fall S n);
+        edgeIs = sym (getD-take m (members S n) (m - 1) 0 (omega arith));
+      }
+
+  -- a set is joined of its parts
+  pub joined-set : (R : Set) (p : ℕ) → ((q : ℕ) → q < boundary m n S → R q ≡ S q) → p < n → joined (take m (members S n)) (boundary m n S) R p ≡ S p
+  joined-set R p a h =
+      let l : List ℕ = members S n in
+      ap (_||_ (among (take m l) p)) (below-same (boundary m n S) R S a p ∙ sym (members-among S (boundary m n S) p) ∙ ap (λ (x : List ℕ). among x p) (sym (drop-edge S m n z)))
       ∙ sym (among-append (take m l) (drop m l) p)
       ∙ ap (λ (x : List ℕ). among x p) (take-append-drop m l)
-      ∙ members-among S (64 * k) p
-      ∙ below-in (64 * k) S p h
+      ∙ members-among S n p
+      ∙ below-in n S p h
+
+module _ {m n : ℕ} {xs : List ℕ} {edge : ℕ} (z : 0 < m) (C : Split m n xs edge) where
+  -- the list is full, or the boundary is 0
+  pub split-full : {P : Type 0} → (length xs ≡ m → P) → (length xs < m → edge ≡ 0 → P) → P
+  split-full {P} f g = go (decLt (length xs) m)
+    where
+      go : Dec (length xs < m) → P
+      go (yes l) = g l (C .edgeIs ∙ List·getD-eq-default xs 0 {n = m - 1} (omega arith))
+      go (no l) = f (omega (arith, C .few))
+
+  pub edge-low : edge ≤ n
+  edge-low = split-full (λ e. omega (arith, C .edgeIs, falls-room xs n (m - 1) (C .falling) (omega arith))) (λ l e. omega arith)
+
+  edge-under : (i : ℕ) → i < length xs → edge ≤ getD xs i 0
+  edge-under i h =
+      split-full (λ e. omega (arith, C .edgeIs, falls-order xs n i (m - 1) (C .falling) (omega arith) (omega arith))) (λ l e. omega arith)
+
+  pub joined-members : (R : Set) → members (joined xs edge R) n ≡ xs ++ members R edge
+  joined-members R =
+      let ys : List ℕ = members R edge in
+      let f : Falls n (xs ++ ys) = falls-append xs ys n edge (C .falling) edge-low edge-under (members-fall R edge) in
+      sym (members-unique (xs ++ ys) (joined xs edge R) n f
+      (λ p h. sym (falls-among (xs ++ ys) n p f) ∙ among-append xs ys p ∙ ap (_||_ (among xs p)) (members-among R edge p)))
+
+  -- and the parts are those of the set joined
+  pub joined-top : (R : Set) → take m (members (joined xs edge R) n) ≡ xs
+  unfolding members
+  joined-top R =
+      ap (take m) (joined-members R)
+      ∙ split-full
+      {P = take m (xs ++ members R edge) ≡ xs}
+      (λ e. take-at xs (members R edge) m e)
+      (λ l e. ap (λ (x : ℕ). take m (xs ++ members R x)) e ∙ ap (take m) (append-nil xs) ∙ take-all m xs (C .few))
+
+  pub joined-edge : (R : Set) → boundary m n (joined xs edge R) ≡ edge
+  joined-edge R =
+      sym (getD-take m (members (joined xs edge R) n) (m - 1) 0 (omega arith))
+      ∙ ap (λ (l : List ℕ). getD l (m - 1) 0) (joined-top R)
+      ∙ sym (C .edgeIs)
+
+  pub joined-bit : (R : Set) (b : ℕ) → ((p : ℕ) → edge ≤ p → p < b → R p ≡ false) → (p : ℕ) → p < b → R p ≡ below edge (joined xs edge R) p
+  joined-bit R b clear p h = go (decLt p edge)
+    where
+      go : Dec (p < edge) → R p ≡ below edge (joined xs edge R) p
+      go (yes l) =
+          sym (below-in edge R p l)
+          ∙ ap (λ (t : Bool). _||_ t (below edge R p)) (sym (among-under xs edge p edge-under l))
+          ∙ sym (below-in edge (joined xs edge R) p l)
+      go (no l) = clear p (omega arith) h ∙ sym (below-out edge (joined xs edge R) p (omega arith))
+
+-- ---- the set shown
+
+-- a filter shows its set
+pub shown-set : {m k : ℕ} {top blocks : List ℕ} {count edge : ℕ} {S : Set} → Holds m k top blocks count edge S → 0 < m
+    → (p : ℕ) → p < 64 * k → shown top blocks count edge p ≡ S p
+shown-set {m} {k} {top} {blocks} {count} {edge} {S} H z p h =
+    ap₂ (λ (l : List ℕ) (e : ℕ). joined l e (held blocks) p) (holds-tops H) (H .edgeIs)
+    ∙ joined-set m (64 * k) z S (held blocks) p
+    (λ q l. holds-bits H q (omega (arith, edge-low z (set-split m (64 * k) z S))) ∙ below-in (boundary m (64 * k) S) S q l)
+    h
 
 -- ---- isFilter
 
