@@ -9,8 +9,8 @@ use native.Mathlib.Decide.{le-ind, decLt, ℕ-discrete}
 use native.Mathlib.Omega.{arith}
 use lib.Dec.{ltb, eqb}
 use lib.ListN.{length, getD, take}
-use borrow.Author.Tests.{lt-ltb, le-ltb, eq-eqb, ne-eqb}
-use Rattle.sets.specs.Sets.{Falls, Set, apart, below, differ, flip, flips, members, none, odd}
+use borrow.Author.Tests.{lt-ltb, le-ltb, le-leb, lt-leb, eq-eqb, ne-eqb}
+use Rattle.sets.specs.Sets.{Falls, Set, apart, below, differ, flip, flips, members, none, odd, onward}
 
 -- ---- differ is a sum without carry
 
@@ -74,13 +74,19 @@ pub flips-append : (bs cs : List ℕ) (S : Set) → flips (bs ++ cs) S ≡ flips
 flips-append [] cs S = refl
 flips-append (b ∷ bs) cs S = flips-append bs cs (flip b S)
 
--- ---- below
+-- ---- below and onward
 
 pub below-in : (b : ℕ) (S : Set) (p : ℕ) → p < b → below b S p ≡ S p
 below-in b S p h = ap (λ (x : Bool). _&&_ x (S p)) (lt-ltb p b h)
 
 pub below-out : (b : ℕ) (S : Set) (p : ℕ) → b ≤ p → below b S p ≡ false
 below-out b S p h = ap (λ (x : Bool). _&&_ x (S p)) (le-ltb p b h)
+
+pub onward-in : (b : ℕ) (S : Set) (p : ℕ) → b ≤ p → onward b S p ≡ S p
+onward-in b S p h = ap (λ (x : Bool). _&&_ x (S p)) (le-leb b p h)
+
+pub onward-out : (b : ℕ) (S : Set) (p : ℕ) → p < b → onward b S p ≡ false
+onward-out b S p h = ap (λ (x : Bool). _&&_ x (S p)) (lt-leb b p h)
 
 pub below-same : (b : ℕ) (S R : Set) → ((p : ℕ) → p < b → S p ≡ R p) → (p : ℕ) → below b S p ≡ below b R p
 below-same b S R h p = go (decLt p b)
@@ -179,6 +185,9 @@ members-odd S (suc n) p = go (members-odd S n p) (S n) refl (ℕ-discrete p n)
     go ih true e (no q) = ap₂ differ (ne-eqb p n q) ih ∙ below-more n S p q
     go ih false e (yes q) = ih ∙ below-out n S p (omega arith) ∙ sym e ∙ ap S (sym q) ∙ sym (below-in (suc n) S p (omega arith))
     go ih false e (no q) = ih ∙ below-more n S p q
+
+pub members-none-back : (S : Set) (n : ℕ) → members S n ≡ [] → (p : ℕ) → p < n → S p ≡ false
+members-none-back S n e p h = sym (below-in n S p h) ∙ sym (members-odd S n p) ∙ ap (λ (l : List ℕ). odd l p) e
 
 -- a falling list with the same membership is the list of the members
 pub members-unique : (l : List ℕ) (S : Set) (n : ℕ) → Falls n l → ((p : ℕ) → p < n → odd l p ≡ S p) → l ≡ members S n

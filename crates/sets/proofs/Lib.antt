@@ -7,4 +7,6 @@ pub mod Filters
 pub mod Shown
 pub mod Canon
 pub mod Bytes
+pub mod Rows
+pub mod Reading
 pub mod Edges

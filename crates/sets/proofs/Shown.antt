@@ -1,6 +1,7 @@
 -- A record with its areas is some set's filter exactly when `isFilter` computes true, and the set is the one shown. Assumes nothing.
 use mathlib.Core.Path.{_≡_, refl, sym, ap, ap₂, _∙_, subst, fun-ext}
 use mathlib.Core.Bool.{Bool, true, false, true≢false, _&&_, _||_}
+use mathlib.Core.Logic.{_⊎_, inl, inr}
 use mathlib.Core.List.{List, [], _∷_, _++_, append-nil}
 use Prim.Native.Nat.{ℕ, zero, suc, _+_, _-_, _*_, _≤_, _<_}
 use native.Mathlib.Decide.{decLt, ℕ-discrete}
@@ -27,6 +28,17 @@ and-right false b h = absurd (true≢false (sym h))
 
 pub and-intro : (a b : Bool) → a ≡ true → b ≡ true → _&&_ a b ≡ true
 and-intro a b h l = ap₂ _&&_ h l
+
+pub or-left : (a b : Bool) → a ≡ true → _||_ a b ≡ true
+or-left a b h = ap (λ (x : Bool). _||_ x b) h
+
+pub or-right : (a b : Bool) → b ≡ true → _||_ a b ≡ true
+or-right true b h = refl
+or-right false b h = h
+
+pub or-cases : (a b : Bool) → _||_ a b ≡ true → (a ≡ true) ⊎ (b ≡ true)
+or-cases true b h = inl refl
+or-cases false b h = inr h
 
 or-assoc : (a b c : Bool) → _||_ a (_||_ b c) ≡ _||_ (_||_ a b) c
 or-assoc true b c = refl
