@@ -1,12 +1,12 @@
 -- The laws of little-endian bytes: of one number, and of several one after the other. Assumes nothing.
-use mathlib.Core.Path.{_≡_, refl, sym, ap, ap₂, _∙_, subst}
+use mathlib.Core.Path.{_≡_, refl, sym, ap, ap₂, _∙_}
 use mathlib.Core.List.{List, [], _∷_, _++_, append-assoc}
 use Prim.Native.Nat.{ℕ, zero, suc, _+_, _*_, _/_, _%_, _^_, _≤_, _<_}
 use native.Mathlib.Nat.{suc-mul, zero-mul, lt-of-lt-of-le}
 use native.Mathlib.Omega.{arith}
-use lib.ListN.{length, getD, take, drop, length-append, length-take, length-drop}
+use lib.ListN.{length, take, drop, length-append, length-take, length-drop}
 use lib.Seq.{length-take-le, take-add, take-at, drop-at}
-use lib.Pow.{pow-add, pow-mono, shr-lt}
+use lib.Pow.{pow-add, pow-mono}
 use Rattle.sets.specs.Sets.{Below}
 use Rattle.sets.specs.Row.{bytes, bytesOf, little, numbers}
 use Rattle.sets.proofs.Lists.{below-append, below-take, below-drop}
@@ -25,7 +25,7 @@ bytes-below zero v i h = absurd (omega arith)
 bytes-below (suc w) v zero h = omega arith
 bytes-below (suc w) v (suc i) h = bytes-below w (v / 256) i (omega arith)
 
--- w more bytes than one: 8 more digits
+-- one more byte is 8 more digits
 pow-byte : (w : ℕ) → 2 ^ (8 * suc w) ≡ 2 ^ (8 * w) * 256
 pow-byte w =
     let e : 8 * suc w ≡ 8 * w + 8 = omega arith in
@@ -74,7 +74,9 @@ pub numbers-bytesOf : (w : ℕ) (vs tail : List ℕ) → Below (2 ^ (8 * w)) vs 
 numbers-bytesOf w [] tail h = refl
 numbers-bytesOf w (v ∷ vs) tail h =
     let n : length (bytes w v) ≡ w = length-bytes w v in
-    rw (append-assoc, take-at (bytes w v) (bytesOf w vs ++ tail) w n, drop-at (bytes w v) (bytesOf w vs ++ tail) w n, little-bytes w v (h 0 (omega arith)), numbers-bytesOf w vs tail (λ i a. h (suc i) (omega arith)))
+    let rest : List ℕ = bytesOf w vs ++ tail in
+    rw (append-assoc, take-at (bytes w v) rest w n, drop-at (bytes w v) rest w n, little-bytes w v (h 0 (omega arith)))
+    (ap (_∷_ v) (numbers-bytesOf w vs tail (λ i a. h (suc i) (omega arith))))
 
 -- read and written again
 pub bytesOf-numbers : (w n : ℕ) (bs : List ℕ) → Bytes bs → n * w ≤ length bs → bytesOf w (numbers w n bs) ≡ take (n * w) bs

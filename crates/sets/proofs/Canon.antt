@@ -56,7 +56,8 @@ module _ {m k : ℕ} {top blocks : List ℕ} {count edge : ℕ} (z : 0 < m) (n :
         tops = ext-getD 0 (take m top) (topCells m (64 * k) S) (length-take-le m top n ∙ sym (length-tabulate m _))
             (λ i h.
             let h′ : i < m = omega (arith, length-take-le m top n) in
-            getD-take m top i 0 h′ ∙ cell i h′ ∙ ap (λ (x : List ℕ). getD x i 0) (sym t) ∙ getD-take m l i 0 h′ ∙ sym (getD-tabulate m (λ j. getD l j 0) i 0 h′));
+            getD-take m top i 0 h′ ∙ cell i h′ ∙ ap (λ (x : List ℕ). getD x i 0) (sym t)
+            ∙ getD-take m l i 0 h′ ∙ sym (getD-tabulate m (λ j. getD l j 0) i 0 h′));
         bits = ext-getD 0 (take k blocks) (bitCells m (64 * k) k S) (length-take-le k blocks nb ∙ sym (length-tabulate k _))
             (λ i h.
             let h′ : i < k = omega (arith, length-take-le k blocks nb) in

@@ -82,10 +82,10 @@ below-in b S p h = ap (λ (x : Bool). _&&_ x (S p)) (lt-ltb p b h)
 pub below-out : (b : ℕ) (S : Set) (p : ℕ) → b ≤ p → below b S p ≡ false
 below-out b S p h = ap (λ (x : Bool). _&&_ x (S p)) (le-ltb p b h)
 
-pub onward-in : (b : ℕ) (S : Set) (p : ℕ) → b ≤ p → onward b S p ≡ S p
+onward-in : (b : ℕ) (S : Set) (p : ℕ) → b ≤ p → onward b S p ≡ S p
 onward-in b S p h = ap (λ (x : Bool). _&&_ x (S p)) (le-leb b p h)
 
-pub onward-out : (b : ℕ) (S : Set) (p : ℕ) → p < b → onward b S p ≡ false
+onward-out : (b : ℕ) (S : Set) (p : ℕ) → p < b → onward b S p ≡ false
 onward-out b S p h = ap (λ (x : Bool). _&&_ x (S p)) (lt-leb b p h)
 
 pub below-same : (b : ℕ) (S R : Set) → ((p : ℕ) → p < b → S p ≡ R p) → (p : ℕ) → below b S p ≡ below b R p
@@ -186,8 +186,19 @@ members-odd S (suc n) p = go (members-odd S n p) (S n) refl (ℕ-discrete p n)
     go ih false e (yes q) = ih ∙ below-out n S p (omega arith) ∙ sym e ∙ ap S (sym q) ∙ sym (below-in (suc n) S p (omega arith))
     go ih false e (no q) = ih ∙ below-more n S p q
 
-pub members-none-back : (S : Set) (n : ℕ) → members S n ≡ [] → (p : ℕ) → p < n → S p ≡ false
+members-none-back : (S : Set) (n : ℕ) → members S n ≡ [] → (p : ℕ) → p < n → S p ≡ false
 members-none-back S n e p h = sym (below-in n S p h) ∙ sym (members-odd S n p) ∙ ap (λ (l : List ℕ). odd l p) e
+
+-- no member stands from b on exactly when none is listed
+pub onward-none : (b : ℕ) (S : Set) (n : ℕ) → ((p : ℕ) → b ≤ p → p < n → S p ≡ false) → members (onward b S) n ≡ []
+onward-none b S n h = members-none (onward b S) n (λ p l. go p l (decLt p b))
+  where
+    go : (p : ℕ) → p < n → Dec (p < b) → onward b S p ≡ false
+    go p l (yes a) = onward-out b S p a
+    go p l (no a) = onward-in b S p (omega arith) ∙ h p (omega arith) l
+
+pub onward-none-back : (b : ℕ) (S : Set) (n : ℕ) → members (onward b S) n ≡ [] → (p : ℕ) → b ≤ p → p < n → S p ≡ false
+onward-none-back b S n e p a l = sym (onward-in b S p a) ∙ members-none-back (onward b S) n e p l
 
 -- a falling list with the same membership is the list of the members
 pub members-unique : (l : List ℕ) (S : Set) (n : ℕ) → Falls n l → ((p : ℕ) → p < n → odd l p ≡ S p) → l ≡ members S n

@@ -3,10 +3,10 @@ use mathlib.Core.Path.{_≡_, refl, sym, ap, ap₂, _∙_, subst}
 use mathlib.Core.Bool.{Bool, true, false, true≢false, cond, _&&_, _||_}
 use mathlib.Core.Logic.{_⊎_, inl, inr, ⊎-elim, _↔_}
 use mathlib.Core.List.{List, [], _∷_, _++_, append-nil, cons≢nil}
-use Prim.Native.Nat.{ℕ, zero, suc, _+_, _-_, _*_, _/_, _%_, _^_, _≤_, _<_, min}
+use Prim.Native.Nat.{ℕ, _+_, _-_, _*_, _/_, _%_, _^_, _≤_, _<_, min}
 use native.Mathlib.Nat.{div-add-mod', div-le-of-le-mul, le-div-iff-mul-le, mul-comm, mul-le-mul-right, mul-mod-left}
 use native.Mathlib.Numerals.{add-one}
-use native.Mathlib.Decide.{decLt, ℕ-discrete}
+use native.Mathlib.Decide.{ℕ-discrete}
 use native.Mathlib.Omega.{arith}
 use lib.Dec.{eqb, ltb, leb}
 use lib.ListN.{length, getD, take, drop, length-drop}
@@ -15,25 +15,28 @@ use borrow.Author.Tests.{eq-eqb, lt-ltb, le-leb, eqb-true, ltb-true, leb-true}
 use Rattle.sets.specs.Sets.{Falls, Set, below, members, onward, tabulate}
 use Rattle.sets.specs.Words.{blockAt, held}
 use Rattle.sets.specs.Configurations.{Config, Sound, W, blocksFor, longestRow}
-use Rattle.sets.specs.Row.{Fault, bitPart, bytesOf, countFault, entriesFit, fallFault, highFault, isRow, lengthFits, lowest, nowhere, numbers, place, rising, row, rowBlockCount, rowBlocks, rowBoundary, rowEntries, shownRow, sound, spareByte, spareFault, topBytes}
+use Rattle.sets.specs.Row.{bitPart, bytesOf, numbers, row, rowBlockCount, rowBlocks, rowBoundary, rowEntries, shownRow, spareByte, topBytes}
+use Rattle.sets.specs.Row.{Fault, countFault, entriesFit, fallFault, highFault, isRow, lengthFits, lowest, nowhere, place, rising, sound, spareFault}
 use Rattle.sets.specs.Refusals.{Verdict, isRowOf, refused, taken, verdict}
-use Rattle.sets.proofs.Laws.{members-none, members-none-back, onward-in, onward-out, below-in, below-out}
+use Rattle.sets.proofs.Laws.{below-in, below-out, onward-none, onward-none-back}
 use Rattle.sets.proofs.Filters.{falls-at}
 use Rattle.sets.proofs.Words.{held-word, word-same}
 use Rattle.sets.proofs.Lists.{below-drop, getD-tabulate, length-tabulate}
-use Rattle.sets.proofs.Shown.{Split, and-intro, and-left, and-right, below-all, joined, joined-bit, joined-edge, joined-top, or-cases, or-left, or-right}
+use Rattle.sets.proofs.Shown.{Split, and-intro, and-left, and-right, below-all, joined-bit, joined-edge, joined-top, or-cases, or-left, or-right}
 use Rattle.sets.proofs.Bytes.{Bytes, length-bytesOf, length-numbers, numbers-below, bytesOf-numbers}
-use Rattle.sets.proofs.Rows.{bitPart-none, bitPart-some, edgeOf, row-bits, row-blockCount, row-blocks, row-boundary, row-cases, row-entries, row-longest, row-same, rowBits, rowBits-held, shown-row, topsOf, tops-split}
+use Rattle.sets.proofs.Rows.{bitPart-none, bitPart-some, edgeOf, rowBits, rowBits-held, topsOf, tops-split}
+use Rattle.sets.proofs.Rows.{row-bits, row-blockCount, row-blocks, row-boundary, row-cases, row-entries, row-longest, row-same, shown-row}
 
 -- ---- the four tests of refusal 5, as facts
 
+-- where none finds a fault
 pub record Faultless (c : Config) (bs : List ℕ) : Type 0 where
   pub falling : Falls (W c) (rowEntries c bs)
   pub counted : rowBlockCount c bs ≡ blocksFor (rowBoundary c bs)
   pub spare : (rowBoundary c bs ≡ 0 → ⊥) → getD bs (topBytes c) 0 ≡ spareByte (rowBoundary c bs)
   pub clear : (p : ℕ) → rowBoundary c bs ≤ p → p < 64 * rowBlockCount c bs → held (rowBlocks c bs) p ≡ false
 
--- as isRow has them
+-- the tests as `isRow` has them
 abbrev pub faultless : Config → List ℕ → Bool
 faultless c bs = sound (fallFault c bs) && (sound (countFault c bs) && (sound (spareFault c bs) && sound (highFault c bs)))
 
@@ -61,28 +64,34 @@ lowest-none at [] h = refl
 lowest-none at (p ∷ []) h = absurd (true≢false (sym h))
 lowest-none at (p ∷ q ∷ ps) h = absurd (cons≢nil (lowest-none at (q ∷ ps) h))
 
+-- either the boundary is 0, or the byte is right
+spare-test : (e g x : ℕ) → ((e ≡ 0 → ⊥) → g ≡ x) → _||_ (eqb e 0) (eqb g x) ≡ true
+spare-test e g x h = go (ℕ-discrete e 0)
+  where
+    go : Dec (e ≡ 0) → _||_ (eqb e 0) (eqb g x) ≡ true
+    go (yes z) = or-left (eqb e 0) (eqb g x) (eq-eqb e 0 z)
+    go (no z) = or-right (eqb e 0) (eqb g x) (eq-eqb g x (h z))
+
+test-spare : (e g x : ℕ) → _||_ (eqb e 0) (eqb g x) ≡ true → (e ≡ 0 → ⊥) → g ≡ x
+test-spare e g x h n = ⊎-elim (λ z. absurd (n (eqb-true e 0 z))) (λ z. eqb-true g x z) (or-cases (eqb e 0) (eqb g x) h)
+
 module _ (c : Config) (bs : List ℕ) where
   pub faultless-facts : faultless c bs ≡ true → Faultless c bs
   unfolding fallFault countFault spareFault highFault
   faultless-facts h =
       let e : ℕ = rowBoundary c bs in
       let k : ℕ = rowBlockCount c bs in
+      let g : ℕ = getD bs (topBytes c) 0 in
       let R : Set = held (rowBlocks c bs) in
-      let fall : Bool = sound (fallFault c bs) in
-      let count : Bool = sound (countFault c bs) in
-      let spares : Bool = sound (spareFault c bs) in
       let high : Bool = sound (highFault c bs) in
-      let h₁ : _&&_ count (_&&_ spares high) ≡ true = and-right fall (_&&_ count (_&&_ spares high)) h in
-      let h₂ : _&&_ spares high ≡ true = and-right count (_&&_ spares high) h₁ in
-      let none : members (onward e R) (64 * k) ≡ [] = lowest-none (topBytes c + 1) (members (onward e R) (64 * k)) (and-right spares high h₂) in
-      let zero-edge : Bool = eqb e 0 in
-      let right : Bool = eqb (getD bs (topBytes c) 0) (spareByte e) in
-      let either : (zero-edge ≡ true) ⊎ (right ≡ true) = or-cases zero-edge right (sym (sound-cond (_||_ zero-edge right) (topBytes c)) ∙ and-left spares high h₂) in
+      let spares : Bool = sound (spareFault c bs) in
+      let h₁ : _&&_ (sound (countFault c bs)) (_&&_ spares high) ≡ true = and-right (sound (fallFault c bs)) _ h in
+      let h₂ : _&&_ spares high ≡ true = and-right (sound (countFault c bs)) _ h₁ in
       record {
-        falling = rising-falls (c .entry) 0 (W c) (rowEntries c bs) (and-left fall (_&&_ count (_&&_ spares high)) h);
-        counted = eqb-true k (blocksFor e) (sym (sound-cond (eqb k (blocksFor e)) (topBytes c)) ∙ and-left count (_&&_ spares high) h₁);
-        spare = λ n. ⊎-elim (λ z. absurd (n (eqb-true e 0 z))) (λ z. eqb-true (getD bs (topBytes c) 0) (spareByte e) z) either;
-        clear = λ p a b. sym (onward-in e R p a) ∙ members-none-back (onward e R) (64 * k) none p b;
+        falling = rising-falls (c .entry) 0 (W c) (rowEntries c bs) (and-left (sound (fallFault c bs)) _ h);
+        counted = eqb-true k (blocksFor e) (sym (sound-cond (eqb k (blocksFor e)) (topBytes c)) ∙ and-left (sound (countFault c bs)) _ h₁);
+        spare = test-spare e g (spareByte e) (sym (sound-cond (_||_ (eqb e 0) (eqb g (spareByte e))) (topBytes c)) ∙ and-left spares high h₂);
+        clear = onward-none-back e R (64 * k) (lowest-none (topBytes c + 1) (members (onward e R) (64 * k)) (and-right spares high h₂));
       }
 
   pub facts-faultless : Faultless c bs → faultless c bs ≡ true
@@ -90,21 +99,11 @@ module _ (c : Config) (bs : List ℕ) where
   facts-faultless F =
       let e : ℕ = rowBoundary c bs in
       let k : ℕ = rowBlockCount c bs in
-      let R : Set = held (rowBlocks c bs) in
+      let g : ℕ = getD bs (topBytes c) 0 in
       and-intro _ _ (falls-rising (c .entry) 0 (W c) (rowEntries c bs) (F .falling))
       (and-intro _ _ (sound-cond (eqb k (blocksFor e)) (topBytes c) ∙ eq-eqb k (blocksFor e) (F .counted))
-      (and-intro _ _ (sound-cond (_||_ (eqb e 0) (eqb (getD bs (topBytes c) 0) (spareByte e))) (topBytes c) ∙ spared (ℕ-discrete e 0))
-      (ap (λ (l : List ℕ). sound (lowest (topBytes c + 1) l)) (members-none (onward e R) (64 * k) (λ p h. cleared p h (decLt p e))))))
-    where
-      spared : Dec (rowBoundary c bs ≡ 0) → _||_ (eqb (rowBoundary c bs) 0) (eqb (getD bs (topBytes c) 0) (spareByte (rowBoundary c bs))) ≡ true
-      spared (yes z) = or-left (eqb (rowBoundary c bs) 0) (eqb (getD bs (topBytes c) 0) (spareByte (rowBoundary c bs))) (eq-eqb (rowBoundary c bs) 0 z)
-      spared (no z) =
-          or-right (eqb (rowBoundary c bs) 0) (eqb (getD bs (topBytes c) 0) (spareByte (rowBoundary c bs)))
-          (eq-eqb (getD bs (topBytes c) 0) (spareByte (rowBoundary c bs)) (F .spare z))
-
-      cleared : (p : ℕ) → p < 64 * rowBlockCount c bs → Dec (p < rowBoundary c bs) → onward (rowBoundary c bs) (held (rowBlocks c bs)) p ≡ false
-      cleared p h (yes l) = onward-out (rowBoundary c bs) (held (rowBlocks c bs)) p l
-      cleared p h (no l) = onward-in (rowBoundary c bs) (held (rowBlocks c bs)) p (omega arith) ∙ F .clear p (omega arith) h
+      (and-intro _ _ (sound-cond (_||_ (eqb e 0) (eqb g (spareByte e))) (topBytes c) ∙ spare-test e g (spareByte e) (F .spare))
+      (ap (λ (l : List ℕ). sound (lowest (topBytes c + 1) l)) (onward-none e (held (rowBlocks c bs)) (64 * k) (F .clear)))))
 
 -- ---- refusal 4, as facts
 
@@ -116,41 +115,28 @@ abbrev pub Long : Config → List ℕ → Type 0
 Long c bs = (topBytes c + 9 ≤ length bs) × ((length bs - (topBytes c + 1)) % 8 ≡ 0)
 
 module _ (c : Config) (bs : List ℕ) where
-  whole : Bool
-  whole = eqb (length bs % c .entry) 0
-
-  most : Bool
-  most = leb (length bs) (topBytes c)
-
-  more : Bool
-  more = leb (topBytes c + 9) (length bs)
-
-  eights : Bool
-  eights = eqb ((length bs - (topBytes c + 1)) % 8) 0
-
   pub length-facts : lengthFits c bs ≡ true → (length bs ≤ longestRow c) × (Short c bs ⊎ Long c bs)
-  unfolding lengthFits whole most more eights
+  unfolding lengthFits
   length-facts h =
       let longest : Bool = leb (length bs) (longestRow c) in
-      let short : Bool = _&&_ whole most in
-      let long : Bool = _&&_ more eights in (
-        leb-true _ _ (and-left longest (_||_ short long) h),
+      let whole : Bool = eqb (length bs % c .entry) 0 in
+      let most : Bool = leb (length bs) (topBytes c) in
+      let more : Bool = leb (topBytes c + 9) (length bs) in
+      let eights : Bool = eqb ((length bs - (topBytes c + 1)) % 8) 0 in (
+        leb-true _ _ (and-left longest _ h),
         ⊎-elim
             {C = Short c bs ⊎ Long c bs}
             (λ g. inl (eqb-true _ _ (and-left whole most g), leb-true _ _ (and-right whole most g)))
             (λ g. inr (leb-true _ _ (and-left more eights g), eqb-true _ _ (and-right more eights g)))
-            (or-cases short long (and-right longest (_||_ short long) h)),
+            (or-cases (_&&_ whole most) (_&&_ more eights) (and-right longest _ h)),
       )
 
   pub facts-length : length bs ≤ longestRow c → Short c bs ⊎ Long c bs → lengthFits c bs ≡ true
-  unfolding lengthFits whole most more eights
+  unfolding lengthFits
   facts-length h g =
-      let short : Bool = _&&_ whole most in
-      let long : Bool = _&&_ more eights in
-      and-intro _ _ (le-leb (length bs) (longestRow c) h) (⊎-elim
-      {C = _||_ short long ≡ true}
-      (λ k. or-left short long (and-intro whole most (eq-eqb _ _ (k .0)) (le-leb _ _ (k .1))))
-      (λ k. or-right short long (and-intro more eights (le-leb _ _ (k .0)) (eq-eqb _ _ (k .1))))
+      and-intro _ _ (le-leb _ _ h) (⊎-elim
+      (λ k. or-left _ _ (and-intro _ _ (eq-eqb _ _ (k .0)) (le-leb _ _ (k .1))))
+      (λ k. or-right (_&&_ (eqb (length bs % c .entry) 0) (leb (length bs) (topBytes c))) _ (and-intro _ _ (le-leb _ _ (k .0)) (eq-eqb _ _ (k .1))))
       g)
 
 -- ---- the row of a set passes
@@ -240,9 +226,15 @@ module _ (c : Config) (s : Sound c) (bs : List ℕ) (b : Bytes bs) (F : Faultles
   unfolding rowEntries
   entries-back n e h = ap (λ (x : ℕ). bytesOf (c .entry) (numbers (c .entry) x bs)) e ∙ bytesOf-numbers (c .entry) n bs b h
 
-  blocks-bytes : rowBlockCount c bs * 8 ≤ length (drop (topBytes c + 1) bs) → bytesOf 8 (rowBlocks c bs) ≡ take (rowBlockCount c bs * 8) (drop (topBytes c + 1) bs)
+  -- and its blocks the last
+  tail-back : Long c bs → bytesOf 8 (rowBlocks c bs) ≡ drop (topBytes c + 1) bs
   unfolding rowBlocks
-  blocks-bytes = bytesOf-numbers 8 (rowBlockCount c bs) (drop (topBytes c + 1) bs) (below-drop (topBytes c + 1) bs 256 b)
+  tail-back h =
+      let tail : List ℕ = drop (topBytes c + 1) bs in
+      let k : rowBlockCount c bs * 8 ≡ length tail = omega (arith, h .0, h .1, length-drop (topBytes c + 1) bs) in
+      bytesOf-numbers 8 (rowBlockCount c bs) tail (below-drop (topBytes c + 1) bs 256 b) (omega arith)
+      ∙ ap (λ (x : ℕ). take x tail) k
+      ∙ take-length tail
 
   short-row : Short c bs → row c (shownRow c bs) ≡ bs
   short-row h =
@@ -259,44 +251,38 @@ module _ (c : Config) (s : Sound c) (bs : List ℕ) (b : Bytes bs) (F : Faultles
   long-row : Long c bs → row c (shownRow c bs) ≡ bs
   long-row h =
       let e : ℕ = rowBoundary c bs in
-      let tail : List ℕ = drop (topBytes c + 1) bs in
       let q : c .M ≤ length bs / c .entry = le-div-iff-mul-le {k = c .entry} (omega (arith, s .fits)) .1 (omega (arith, h .0)) in
       let n : e ≡ 0 → ⊥ = omega (arith, h .0, F .counted) in
-      let k : rowBlockCount c bs * 8 ≡ length tail = omega (arith, h .0, h .1, length-drop (topBytes c + 1) bs) in
-      let bits : bytesOf 8 (rowBits e (shownRow c bs)) ≡ tail =
-      ap (bytesOf 8) blocks-back ∙ blocks-bytes (omega arith) ∙ ap (λ (x : ℕ). take x tail) k ∙ take-length tail in
       written
       ∙ ap₂ _++_
       (entries-back (c .M) (omega arith) (omega (arith, h .0)))
-      (bitPart-some e (shownRow c bs) n ∙ ap₂ (λ (x : ℕ) (l : List ℕ). x ∷ l) (sym (F .spare n)) bits)
+      (bitPart-some e (shownRow c bs) n ∙ ap₂ (λ (x : ℕ) (l : List ℕ). x ∷ l) (sym (F .spare n)) (ap (bytesOf 8) blocks-back ∙ tail-back h))
       ∙ ap (λ (x : ℕ). take (topBytes c) bs ++ (getD bs (topBytes c) 0 ∷ drop x bs)) (add-one (topBytes c))
       ∙ sym (split-at bs (topBytes c) 0 (omega (arith, h .0)))
 
-  pub faultless-row : lengthFits c bs ≡ true → row c (shownRow c bs) ≡ bs
+  faultless-row : lengthFits c bs ≡ true → row c (shownRow c bs) ≡ bs
   faultless-row h = ⊎-elim short-row long-row (length-facts c bs h .1)
 
 -- ---- the tests pass exactly the rows of sets
 
-module _ (c : Config) (s : Sound c) where
-  pub row-faults : (bs : List ℕ) → isRow c bs ≡ true → (lengthFits c bs ≡ true) × (entriesFit c bs ≡ true) × (faultless c bs ≡ true)
-  unfolding isRow
-  row-faults bs h =
-      let g : _&&_ (entriesFit c bs) (faultless c bs) ≡ true = and-right (lengthFits c bs) (_&&_ (entriesFit c bs) (faultless c bs)) h in (
-        and-left (lengthFits c bs) (_&&_ (entriesFit c bs) (faultless c bs)) h,
-        and-left (entriesFit c bs) (faultless c bs) g,
-        and-right (entriesFit c bs) (faultless c bs) g,
-      )
+pub row-tests : (c : Config) (bs : List ℕ) → isRow c bs ≡ true → (lengthFits c bs ≡ true) × (entriesFit c bs ≡ true) × (faultless c bs ≡ true)
+unfolding isRow
+row-tests c bs h =
+    let g : _&&_ (entriesFit c bs) (faultless c bs) ≡ true = and-right (lengthFits c bs) _ h in
+    (and-left (lengthFits c bs) _ h, and-left (entriesFit c bs) _ g, and-right (entriesFit c bs) _ g)
 
-  -- bytes that are a set's row are that of the set that they show
+module _ (c : Config) (s : Sound c) where
+  -- where the length fits, refusal 5 tells whether the bytes are the row of the set that they show
   pub faultless-iff : (bs : List ℕ) → Bytes bs → lengthFits c bs ≡ true → (faultless c bs ≡ true) ↔ (row c (shownRow c bs) ≡ bs)
   faultless-iff bs b h = (
     λ f. faultless-row c s bs b (faultless-facts c bs f) h,
-    λ e. row-faults bs (subst (λ (l : List ℕ). isRow c l ≡ true) e (row-passes c s (shownRow c bs))) .2,
+    λ e. row-tests c bs (subst (λ (l : List ℕ). isRow c l ≡ true) e (row-passes c s (shownRow c bs))) .2,
   )
 
   pub passed-row : (bs : List ℕ) → Bytes bs → isRow c bs ≡ true → row c (shownRow c bs) ≡ bs
-  passed-row bs b h = faultless-iff bs b (row-faults bs h .0) .0 (row-faults bs h .2)
+  passed-row bs b h = faultless-iff bs b (row-tests c bs h .0) .0 (row-tests c bs h .2)
 
+  -- bytes pass exactly when some set of buckets has them for its row
   pub row-iff : (bs : List ℕ) → Bytes bs → (isRow c bs ≡ true) ↔ ((S : Set) × ((p : ℕ) → W c ≤ p → S p ≡ false) × (row c S ≡ bs))
   row-iff bs b = (
     λ h.

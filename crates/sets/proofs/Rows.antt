@@ -1,14 +1,14 @@
 -- The laws of a set's row: its length, its bytes, and that the set is read back from it. Assumes nothing.
-use mathlib.Core.Path.{_≡_, refl, sym, ap, ap₂, _∙_, subst, fun-ext}
+use mathlib.Core.Path.{_≡_, refl, sym, ap, ap₂, _∙_, fun-ext}
 use mathlib.Core.Bool.{Bool, true, false, cond}
 use mathlib.Core.List.{List, [], _∷_, _++_, append-nil}
-use Prim.Native.Nat.{ℕ, zero, suc, _+_, _-_, _*_, _/_, _%_, _^_, _≤_, _<_, min}
-use native.Mathlib.Nat.{add-zero, mul-add-div-right, mul-div-cancel, zero-div, mul-le-mul-right}
+use Prim.Native.Nat.{ℕ, zero, suc, _+_, _-_, _*_, _/_, _^_, _≤_, _<_, min}
+use native.Mathlib.Nat.{add-zero, mul-add-div-right, mul-div-cancel, mul-le-mul-right}
 use native.Mathlib.Decide.{ℕ-discrete}
 use native.Mathlib.Omega.{arith}
 use lib.Dec.{eqb}
 use lib.ListN.{length, getD, take, drop, length-append, length-take}
-use lib.Seq.{getD-take, take-length, drop-append-add}
+use lib.Seq.{take-length, drop-append-add}
 use lib.Pow.{pow-add, pow-mono, pow-pos}
 use borrow.Author.Tests.{eq-eqb, ne-eqb}
 use Rattle.sets.specs.Sets.{Below, Set, below, from, members, tabulate}
@@ -18,8 +18,8 @@ use Rattle.sets.specs.Filter.{boundary, topCount, topList}
 use Rattle.sets.specs.Row.{bitPart, bytesOf, numbers, row, rowBlockCount, rowBlocks, rowBoundary, rowEntries, shownRow, spareByte, topBytes}
 use Rattle.sets.proofs.Laws.{members-same, members-fall, falls-room, below-in, below-same}
 use Rattle.sets.proofs.Words.{word-lt}
-use Rattle.sets.proofs.Lists.{length-tabulate, getD-tabulate, below-append, below-take, below-tabulate}
-use Rattle.sets.proofs.Filters.{blocks-held, falls-at}
+use Rattle.sets.proofs.Lists.{length-tabulate, getD-tabulate, below-append, below-tabulate}
+use Rattle.sets.proofs.Filters.{blocks-held}
 use Rattle.sets.proofs.Shown.{Split, joined, joined-set, edge-low, set-split, split-full}
 use Rattle.sets.proofs.Bytes.{Bytes, bytesOf-below, length-bytesOf, numbers-bytesOf}
 
@@ -82,11 +82,16 @@ module _ (c : Config) (s : Sound c) (S : Set) where
   pub tops-split : Split (c .M) (W c) (topsOf c S) (edgeOf c S)
   tops-split = set-split (c .M) (W c) (s .some) S
 
-  pub row-length : length (row c S) ≡ length (topsOf c S) * c .entry + cond (eqb (edgeOf c S) 0) 0 (1 + 8 * blocksFor (edgeOf c S))
+  row-lengths : length (row c S) ≡ length (topsOf c S) * c .entry + cond (eqb (edgeOf c S) 0) 0 (1 + 8 * blocksFor (edgeOf c S))
   unfolding row
-  row-length =
+  row-lengths =
       length-append (bytesOf (c .entry) (topsOf c S)) (bitPart (edgeOf c S) S)
       ∙ ap₂ _+_ (length-bytesOf (c .entry) (topsOf c S)) (length-bitPart (edgeOf c S) S)
+
+  pub row-length : length (row c S) ≡ topCount (c .M) (W c) S * c .entry + cond (eqb (edgeOf c S) 0) 0 (1 + 8 * blocksFor (edgeOf c S))
+  row-length =
+      row-lengths
+      ∙ ap (λ (x : ℕ). x * c .entry + cond (eqb (edgeOf c S) 0) 0 (1 + 8 * blocksFor (edgeOf c S))) (length-take (c .M) (members S (W c)))
 
   -- there is no bit part, or the top list is full
   pub row-cases : {P : Type 0}
@@ -102,10 +107,10 @@ module _ (c : Config) (s : Sound c) (S : Set) where
       k = 1 + 8 * blocksFor (edgeOf c S)
 
       go : Dec (edgeOf c S ≡ 0) → P
-      go (yes e) = f e (row-length ∙ ap (λ (b : Bool). t + cond b 0 k) (eq-eqb (edgeOf c S) 0 e) ∙ add-zero t)
+      go (yes e) = f e (row-lengths ∙ ap (λ (b : Bool). t + cond b 0 k) (eq-eqb (edgeOf c S) 0 e) ∙ add-zero t)
       go (no e) =
           let l : length (topsOf c S) ≡ c .M = split-full (s .some) tops-split (λ l. l) (λ l o. absurd (e o)) in
-          g e l (row-length ∙ ap₂ (λ (x : ℕ) (b : Bool). x * c .entry + cond b 0 k) l (ne-eqb (edgeOf c S) 0 e))
+          g e l (row-lengths ∙ ap₂ (λ (x : ℕ) (b : Bool). x * c .entry + cond b 0 k) l (ne-eqb (edgeOf c S) 0 e))
 
   pub row-longest : length (row c S) ≤ longestRow c
   row-longest =

@@ -1,15 +1,15 @@
 -- A record with its areas is some set's filter exactly when `isFilter` computes true, and the set is the one shown. Assumes nothing.
-use mathlib.Core.Path.{_≡_, refl, sym, ap, ap₂, _∙_, subst, fun-ext}
+use mathlib.Core.Path.{_≡_, refl, sym, ap, ap₂, _∙_, fun-ext}
 use mathlib.Core.Bool.{Bool, true, false, true≢false, _&&_, _||_}
 use mathlib.Core.Logic.{_⊎_, inl, inr}
 use mathlib.Core.List.{List, [], _∷_, _++_, append-nil}
-use Prim.Native.Nat.{ℕ, zero, suc, _+_, _-_, _*_, _≤_, _<_}
+use Prim.Native.Nat.{ℕ, zero, suc, _-_, _*_, _≤_, _<_}
 use native.Mathlib.Decide.{decLt, ℕ-discrete}
 use native.Mathlib.Omega.{arith}
 use lib.Dec.{ltb, eqb}
 use lib.ListN.{length, getD, take, drop, length-take, take-append-drop, List·getD-eq-default}
 use lib.Seq.{getD-take, take-all, take-at}
-use borrow.Author.Tests.{lt-ltb, le-ltb, eq-eqb, ne-eqb, ltb-true, eqb-true}
+use borrow.Author.Tests.{lt-ltb, eq-eqb, ne-eqb, ltb-true, eqb-true}
 use Rattle.sets.specs.Sets.{Below, Falls, Set, allBelow, among, below, differ, members, odd, same}
 use Rattle.sets.specs.Words.{held}
 use Rattle.sets.specs.Filter.{Holds, bitCells, boundary, isFilter, isFilterOf, shown, topCells, topCount}
@@ -100,7 +100,7 @@ among-under (x ∷ xs) e p h a =
 abbrev pub joined : List ℕ → ℕ → Set → Set
 joined xs edge R p = _||_ (among xs p) (below edge R p)
 
--- Buckets below n that some set has for its m largest members, and its boundary with them.
+-- the m largest members of a set of buckets below n, or all if fewer, and its boundary
 pub record Split (m n : ℕ) (xs : List ℕ) (edge : ℕ) : Type 0 where
   pub few : length xs ≤ m
   pub falling : Falls n xs
@@ -119,7 +119,8 @@ module _ (m n : ℕ) (z : 0 < m) (S : Set) where
   pub joined-set : (R : Set) (p : ℕ) → ((q : ℕ) → q < boundary m n S → R q ≡ S q) → p < n → joined (take m (members S n)) (boundary m n S) R p ≡ S p
   joined-set R p a h =
       let l : List ℕ = members S n in
-      ap (_||_ (among (take m l) p)) (below-same (boundary m n S) R S a p ∙ sym (members-among S (boundary m n S) p) ∙ ap (λ (x : List ℕ). among x p) (sym (drop-edge S m n z)))
+      let e : ℕ = boundary m n S in
+      ap (_||_ (among (take m l) p)) (below-same e R S a p ∙ sym (members-among S e p) ∙ ap (λ (x : List ℕ). among x p) (sym (drop-edge S m n z)))
       ∙ sym (among-append (take m l) (drop m l) p)
       ∙ ap (λ (x : List ℕ). among x p) (take-append-drop m l)
       ∙ members-among S n p
