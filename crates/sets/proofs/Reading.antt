@@ -148,7 +148,7 @@ module _ (c : Config) (s : Sound c) (S : Set) where
       row-cases c s S
       (λ e l. absurd (n e))
       (λ e f l.
-      ap (λ (bs : List ℕ). getD bs (topBytes c) 0) (row-bits c s S e)
+      ap (λ (bs : List ℕ). getD bs (topBytes c) 0) (row-bits c S e)
       ∙ getD-at xs (spareByte (edgeOf c S)) (bytesOf 8 (rowBits (edgeOf c S) S)) 0 (topBytes c) (length-bytesOf (c .entry) (topsOf c S) ∙ ap (λ (x : ℕ). x * c .entry) f))
 
   row-faultless : Faultless c (row c S)

@@ -45,6 +45,11 @@ pub bitPart-some : (edge : ℕ) (S : Set) → (edge ≡ 0 → ⊥) → bitPart e
 unfolding bitPart
 bitPart-some edge S e = rw (ne-eqb edge 0 e)
 
+pub bitPart-same : (edge : ℕ) (S R : Set) → ((p : ℕ) → p < edge → S p ≡ R p) → bitPart edge S ≡ bitPart edge R
+unfolding bitPart
+bitPart-same edge S R h =
+    ap (λ (X : Set). cond (eqb edge 0) [] (spareByte edge ∷ bytesOf 8 (tabulate (blocksFor edge) (blockAt X)))) (fun-ext (below-same edge S R h))
+
 pub length-bitPart : (edge : ℕ) (S : Set) → length (bitPart edge S) ≡ cond (eqb edge 0) 0 (1 + 8 * blocksFor edge)
 unfolding bitPart
 length-bitPart edge S = go (eqb edge 0)
@@ -72,16 +77,14 @@ rowBits-held edge S =
 
 -- ---- the row
 
+-- top list and boundary by configuration
 abbrev pub topsOf : Config → Set → List ℕ
 topsOf c S = topList (c .M) (W c) S
 
 abbrev pub edgeOf : Config → Set → ℕ
 edgeOf c S = boundary (c .M) (W c) S
 
-module _ (c : Config) (s : Sound c) (S : Set) where
-  pub tops-split : Split (c .M) (W c) (topsOf c S) (edgeOf c S)
-  tops-split = set-split (c .M) (W c) (s .some) S
-
+module _ (c : Config) (S : Set) where
   row-lengths : length (row c S) ≡ length (topsOf c S) * c .entry + cond (eqb (edgeOf c S) 0) 0 (1 + 8 * blocksFor (edgeOf c S))
   unfolding row
   row-lengths =
@@ -92,6 +95,21 @@ module _ (c : Config) (s : Sound c) (S : Set) where
   row-length =
       row-lengths
       ∙ ap (λ (x : ℕ). x * c .entry + cond (eqb (edgeOf c S) 0) 0 (1 + 8 * blocksFor (edgeOf c S))) (length-take (c .M) (members S (W c)))
+
+  pub row-bytes : Bytes (row c S)
+  unfolding row
+  row-bytes =
+      below-append (bytesOf (c .entry) (topsOf c S)) (bitPart (edgeOf c S) S) 256
+      (bytesOf-below (c .entry) (topsOf c S)) (bitPart-below (edgeOf c S) S)
+
+  -- the row where it has a bit part
+  pub row-bits : (edgeOf c S ≡ 0 → ⊥) → row c S ≡ bytesOf (c .entry) (topsOf c S) ++ (spareByte (edgeOf c S) ∷ bytesOf 8 (rowBits (edgeOf c S) S))
+  unfolding row
+  row-bits e = ap (_++_ (bytesOf (c .entry) (topsOf c S))) (bitPart-some (edgeOf c S) S e)
+
+module _ (c : Config) (s : Sound c) (S : Set) where
+  pub tops-split : Split (c .M) (W c) (topsOf c S) (edgeOf c S)
+  tops-split = set-split (c .M) (W c) (s .some) S
 
   -- there is no bit part, or the top list is full
   pub row-cases : {P : Type 0}
@@ -107,10 +125,10 @@ module _ (c : Config) (s : Sound c) (S : Set) where
       k = 1 + 8 * blocksFor (edgeOf c S)
 
       go : Dec (edgeOf c S ≡ 0) → P
-      go (yes e) = f e (row-lengths ∙ ap (λ (b : Bool). t + cond b 0 k) (eq-eqb (edgeOf c S) 0 e) ∙ add-zero t)
+      go (yes e) = f e (row-lengths c S ∙ ap (λ (b : Bool). t + cond b 0 k) (eq-eqb (edgeOf c S) 0 e) ∙ add-zero t)
       go (no e) =
           let l : length (topsOf c S) ≡ c .M = split-full (s .some) tops-split (λ l. l) (λ l o. absurd (e o)) in
-          g e l (row-lengths ∙ ap₂ (λ (x : ℕ) (b : Bool). x * c .entry + cond b 0 k) l (ne-eqb (edgeOf c S) 0 e))
+          g e l (row-lengths c S ∙ ap₂ (λ (x : ℕ) (b : Bool). x * c .entry + cond b 0 k) l (ne-eqb (edgeOf c S) 0 e))
 
   pub row-longest : length (row c S) ≤ longestRow c
   row-longest =
@@ -120,21 +138,12 @@ module _ (c : Config) (s : Sound c) (S : Set) where
       let a : c .M - 1 < length (members S (W c)) = omega (arith, length-take (c .M) (members S (W c)), s .some) in
       omega (arith, falls-room (members S (W c)) (W c) (c .M - 1) (members-fall S (W c)) a))
 
-  pub row-bytes : Bytes (row c S)
-  unfolding row
-  row-bytes =
-      below-append (bytesOf (c .entry) (topsOf c S)) (bitPart (edgeOf c S) S) 256
-      (bytesOf-below (c .entry) (topsOf c S)) (bitPart-below (edgeOf c S) S)
-
   -- sets that agree on the buckets have the same row
   pub row-same : (R : Set) → ((p : ℕ) → p < W c → S p ≡ R p) → row c S ≡ row c R
-  unfolding row bitPart
+  unfolding row
   row-same R h =
-      let l : members S (W c) ≡ members R (W c) = members-same S R (W c) h in
-      let b : below (edgeOf c S) S ≡ below (edgeOf c S) R =
-      fun-ext (below-same (edgeOf c S) S R (λ p a. h p (omega (arith, edge-low (s .some) tops-split)))) in
-      ap (λ (X : Set). bytesOf (c .entry) (topsOf c S) ++ cond (eqb (edgeOf c S) 0) [] (spareByte (edgeOf c S) ∷ bytesOf 8 (tabulate (blocksFor (edgeOf c S)) (blockAt X)))) b
-      ∙ ap (λ (x : List ℕ). bytesOf (c .entry) (take (c .M) x) ++ bitPart (getD x (c .M - 1) 0) R) l
+      ap (_++_ (bytesOf (c .entry) (topsOf c S))) (bitPart-same (edgeOf c S) S R (λ p a. h p (omega (arith, edge-low (s .some) tops-split))))
+      ∙ ap (λ (x : List ℕ). bytesOf (c .entry) (take (c .M) x) ++ bitPart (getD x (c .M - 1) 0) R) (members-same S R (W c) h)
 
   -- ---- what is read from a set's row
 
@@ -163,26 +172,24 @@ module _ (c : Config) (s : Sound c) (S : Set) where
   pub row-blockCount : rowBlockCount c (row c S) ≡ blocksFor (edgeOf c S)
   row-blockCount = row-cases (λ e l. omega (arith, mul-le-mul-right (c .entry) (tops-split .few))) (λ e f l. omega arith)
 
-  -- the row where it has a bit part
-  pub row-bits : (edgeOf c S ≡ 0 → ⊥) → row c S ≡ bytesOf (c .entry) (topsOf c S) ++ (spareByte (edgeOf c S) ∷ bytesOf 8 (rowBits (edgeOf c S) S))
-  unfolding row
-  row-bits e = ap (_++_ (bytesOf (c .entry) (topsOf c S))) (bitPart-some (edgeOf c S) S e)
+  drop-tops : (edgeOf c S ≡ 0 → ⊥) → length (topsOf c S) ≡ c .M → drop (topBytes c + 1) (row c S) ≡ bytesOf 8 (rowBits (edgeOf c S) S)
+  drop-tops e f =
+      let xs : List ℕ = bytesOf (c .entry) (topsOf c S) in
+      let a : topBytes c ≡ length xs = ap (λ (x : ℕ). x * c .entry) (sym f) ∙ sym (length-bytesOf (c .entry) (topsOf c S)) in
+      ap₂ (λ (x : ℕ) (l : List ℕ). drop (x + 1) l) a (row-bits c S e) ∙ drop-append-add xs _ 1
 
   pub row-blocks : rowBlocks c (row c S) ≡ rowBits (edgeOf c S) S
   unfolding rowBlocks from
   row-blocks =
-      let xs : List ℕ = bytesOf (c .entry) (topsOf c S) in
       let bits : List ℕ = rowBits (edgeOf c S) S in
+      let k : blocksFor (edgeOf c S) ≡ length bits = sym (length-tabulate (blocksFor (edgeOf c S)) (blockAt (below (edgeOf c S) S))) in
       row-cases
       (λ e l.
       let o : blocksFor (edgeOf c S) ≡ 0 = omega arith in
       ap (λ (x : ℕ). numbers 8 x (drop (topBytes c + 1) (row c S))) (row-blockCount ∙ o)
       ∙ ap (λ (x : ℕ). tabulate x (blockAt (below (edgeOf c S) S))) (sym o))
       (λ e f l.
-      let a : topBytes c + 1 ≡ length xs + 1 = ap (λ (x : ℕ). x * c .entry + 1) (sym f) ∙ ap (λ (x : ℕ). x + 1) (sym (length-bytesOf (c .entry) (topsOf c S))) in
-      let d : drop (topBytes c + 1) (row c S) ≡ bytesOf 8 bits ++ [] =
-      ap₂ (λ (x : ℕ) (l : List ℕ). drop x l) a (row-bits e) ∙ drop-append-add xs (spareByte (edgeOf c S) ∷ bytesOf 8 bits) 1 ∙ sym (append-nil (bytesOf 8 bits)) in
-      ap₂ (λ (x : ℕ) (l : List ℕ). numbers 8 x l) (row-blockCount ∙ sym (length-tabulate (blocksFor (edgeOf c S)) (blockAt (below (edgeOf c S) S)))) d
+      ap₂ (λ (x : ℕ) (l : List ℕ). numbers 8 x l) (row-blockCount ∙ k) (drop-tops e f ∙ sym (append-nil (bytesOf 8 bits)))
       ∙ numbers-bytesOf 8 bits [] (rowBits-below (edgeOf c S) S))
 
 -- what bytes show, with the list of the entries as it stands
