@@ -82,10 +82,10 @@ below-in b S p h = ap (λ (x : Bool). _&&_ x (S p)) (lt-ltb p b h)
 pub below-out : (b : ℕ) (S : Set) (p : ℕ) → b ≤ p → below b S p ≡ false
 below-out b S p h = ap (λ (x : Bool). _&&_ x (S p)) (le-ltb p b h)
 
-onward-in : (b : ℕ) (S : Set) (p : ℕ) → b ≤ p → onward b S p ≡ S p
+pub onward-in : (b : ℕ) (S : Set) (p : ℕ) → b ≤ p → onward b S p ≡ S p
 onward-in b S p h = ap (λ (x : Bool). _&&_ x (S p)) (le-leb b p h)
 
-onward-out : (b : ℕ) (S : Set) (p : ℕ) → p < b → onward b S p ≡ false
+pub onward-out : (b : ℕ) (S : Set) (p : ℕ) → p < b → onward b S p ≡ false
 onward-out b S p h = ap (λ (x : Bool). _&&_ x (S p)) (lt-leb b p h)
 
 pub below-same : (b : ℕ) (S R : Set) → ((p : ℕ) → p < b → S p ≡ R p) → (p : ℕ) → below b S p ≡ below b R p
