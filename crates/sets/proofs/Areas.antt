@@ -3,17 +3,16 @@ use mathlib.Core.Path.{_≡_, refl, sym, ap, _∙_}
 use mathlib.Core.Bool.{true, false}
 use mathlib.Core.List.{List}
 use mathlib.Core.Logic.{_↔_}
-use Prim.Native.Nat.{ℕ, _*_, _≤_, _<_}
+use Prim.Native.Nat.{ℕ, _*_, _≤_}
 use native.Mathlib.Omega.{arith}
 use lib.ListN.{take}
 use lib.Seq.{take-all}
-use Rattle.sets.specs.Sets.{Set, below}
+use Rattle.sets.specs.Sets.{Agree, Set, below}
 use Rattle.sets.specs.Configurations.{Config, W, blocks, Sound}
 use Rattle.sets.specs.Filter.{topCount, boundary, topCells, bitCells, Holds, shown, isFilter, FilterRecord, recordOf, topArea, bitArea}
 use Rattle.sets.proofs.Configurations.{whole-blocks}
 use Rattle.sets.proofs.Filters.{holds-same, length-top, length-bits}
 use Rattle.sets.proofs.Laws.{below-out}
-use Rattle.sets.proofs.Order.{Agree}
 use Rattle.sets.proofs.Shown.{shown-set, holds-filter, some-set}
 
 -- In memory stand the record and the areas of S.

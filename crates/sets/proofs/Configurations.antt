@@ -5,7 +5,7 @@ use Prim.Native.Nat.{ℕ, _+_, _-_, _*_, _/_, _^_, _≤_, _<_}
 use native.Mathlib.Nat.{mul-div-cancel}
 use native.Mathlib.Omega.{arith}
 use lib.Dec.{eqb, lit<, lit≤}
-use lib.Pow.{pow-add}
+use lib.Pow.{pow-add, pow-mono, pow-pos}
 use borrow.Author.Tests.{eqb-true}
 use Rattle.sets.specs.Configurations.{
   Config,
@@ -16,6 +16,7 @@ use Rattle.sets.specs.Configurations.{
   configAt,
   W,
   blocks,
+  positionBits,
   windowBlocks,
   Sound,
 }
@@ -30,6 +31,13 @@ whole-blocks c s =
     let k : blocks c ≡ 65 * x =
     ap (λ (y : ℕ). 65 * y / 64) q ∙ ap (λ (y : ℕ). y / 64) r ∙ mul-div-cancel (65 * x) (lit< tt) in
     omega arith
+
+-- a bucket fits its slot of a key, and its entry of a row: 65 * 2 ^ B is below 128 * 2 ^ B
+pub W-lt : (c : Config) → W c < 2 ^ positionBits c
+W-lt c = omega (arith, pow-add 2 (c .B) 7, pow-pos (c .B))
+
+pub W-entry : (c : Config) → Sound c → W c ≤ 2 ^ (8 * c .entry)
+W-entry c s = omega (arith, W-lt c, pow-mono (s .fits))
 
 -- ---- the three lines are instances
 

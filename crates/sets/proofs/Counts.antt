@@ -1,26 +1,19 @@
 -- The laws of the exact and the limited count. Assumes nothing.
-use mathlib.Core.Path.{_≡_, refl, sym, ap, ap₂, _∙_, subst}
-use mathlib.Core.Bool.{Bool, true, false, cond, _&&_, and-false}
+use mathlib.Core.Path.{_≡_, sym, ap, ap₂, _∙_}
+use mathlib.Core.Bool.{Bool, true, false, cond, and-false, _&&_}
 use mathlib.Core.List.{List, [], _∷_}
-use Prim.Native.Nat.{ℕ, zero, suc, _+_, _-_, _*_, _/_, _≤_, _<_, min}
+use Prim.Native.Nat.{ℕ, suc, _+_, _-_, _*_, _≤_, _<_}
 use native.Mathlib.Decide.{le-ind, decLt}
 use native.Mathlib.Omega.{arith}
 use lib.Dec.{leb}
-use lib.ListN.{length, getD, take, drop, length-drop, List·getD-eq-default}
+use lib.ListN.{length, getD, take, length-drop, List·getD-eq-default}
 use lib.Seq.{getD-take, take-all}
-use borrow.Author.Tests.{le-leb, lt-leb}
 use Rattle.sets.specs.Sets.{Set, below, onward, members}
-use Rattle.sets.specs.Filter.{topCount, boundary, bitsOf, exactCount, lastEntry, low, limitedCount, limitedBound}
-use Rattle.sets.proofs.Laws.{members-same, members-gap, members-none, members-fall, below-in, below-out}
+use Rattle.sets.specs.Filter.{topCount, boundary, exactCount, lastEntry, low, limitedCount, limitedBound}
+use Rattle.sets.proofs.Laws.{members-same, members-gap, members-none, members-fall, below-in, below-out, onward-in, onward-out}
 use Rattle.sets.proofs.Filters.{members-drop, drop-edge, falls-at}
 
 -- ---- at or above, and below
-
-pub onward-in : (b : ℕ) (S : Set) (p : ℕ) → b ≤ p → onward b S p ≡ S p
-onward-in b S p h = ap (λ (x : Bool). x && S p) (le-leb b p h)
-
-pub onward-out : (b : ℕ) (S : Set) (p : ℕ) → p < b → onward b S p ≡ false
-onward-out b S p h = ap (λ (x : Bool). x && S p) (lt-leb b p h)
 
 -- the members below b are those of the set cut there
 pub members-below : (S : Set) (b n : ℕ) → b ≤ n → members (below b S) n ≡ members S b

@@ -2,20 +2,18 @@
 use mathlib.Core.Path.{_≡_, refl, sym, ap, ap₂, _∙_, subst}
 use mathlib.Core.Bool.{Bool, true, false, cond, _&&_}
 use mathlib.Core.Logic.{_⊎_, inl, inr}
-use mathlib.Core.List.{List, [], _∷_, _++_}
+use mathlib.Core.List.{List, [], _∷_}
 use Prim.Native.Nat.{ℕ, zero, suc, _+_, _-_, _*_, _/_, _%_, _^_, _≤_, _<_, min}
-use native.Mathlib.Nat.{zero-lt-suc}
-use native.Mathlib.Decide.{decLt, ℕ-discrete}
-use native.Mathlib.Numerals.{add-one}
+use native.Mathlib.Decide.{ℕ-discrete}
 use native.Mathlib.Omega.{arith}
 use lib.Dec.{ltb}
 use lib.ListN.{length, getD, set, take, drop, length-take, take-append-drop}
 use lib.Bits.{bitXor}
-use lib.Seq.{getD-set-same, getD-set-other, getD-take, take-take, ext-getD, length-take-le}
-use Rattle.sets.specs.Sets.{Below, Falls, Set, apart, below, differ, flip, flips, members, odd, tabulate}
-use Rattle.sets.specs.Words.{blockAt, digit, flipBit, held, word}
-use Rattle.sets.specs.Filter.{Holds, bitCells, boundary, topCells, topCount}
-use Rattle.sets.proofs.Laws.{differ-assoc, differ-self, differ-false, flips-odd, odd-append, members-same, members-odd, members-fall, below-in, below-out}
+use lib.Seq.{getD-set-same, getD-set-other, getD-take, ext-getD, length-take-le}
+use Rattle.sets.specs.Sets.{Below, Falls, Set, below, differ, flip, flips, members, odd, tabulate}
+use Rattle.sets.specs.Words.{blockAt, digit, flipBit, held}
+use Rattle.sets.specs.Filter.{Holds, bitCells, boundary, topCells}
+use Rattle.sets.proofs.Laws.{flips-odd, odd-append, members-same, members-odd, members-fall, falls-room, below-in}
 use Rattle.sets.proofs.Words.{digit-word, word-same, word-flip, word-flip-other}
 use Rattle.sets.proofs.Lists.{length-tabulate, getD-tabulate, tabulate-same}
 
@@ -79,9 +77,7 @@ pub flips-agree : (bs : List ℕ) (S R : Set) (p : ℕ) → S p ≡ R p → flip
 flips-agree bs S R p h = flips-at bs S p ∙ ap (differ (odd bs p)) h ∙ sym (flips-at bs R p)
 
 pub falls-at : (l : List ℕ) (n i : ℕ) → Falls n l → i < length l → getD l i 0 < n
-falls-at [] n i f h = absurd (omega arith)
-falls-at (x ∷ xs) n zero f h = f .0
-falls-at (x ∷ xs) n (suc i) f h = omega (arith, falls-at xs x i (f .1) (omega arith), f .0)
+falls-at l n i f h = omega (arith, falls-room l n i f h)
 
 -- ---- what the areas of a filter tell
 

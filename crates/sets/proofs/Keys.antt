@@ -11,6 +11,7 @@ use lib.Pow.{pow-pos, pow-add, shr-lt, shr-mono}
 use Rattle.sets.specs.Sets.{Below, Falls, Set, members}
 use Rattle.sets.specs.Configurations.{Config, W, positionBits, wholeSlots, leftoverBits}
 use Rattle.sets.specs.Masks.{Ordering, less, equal, greater, kept, keyOf, orderOf, packed}
+use Rattle.sets.proofs.Configurations.{W-lt}
 use Rattle.sets.proofs.Laws.{members-fall, members-same}
 use Rattle.sets.proofs.Filters.{falls-at}
 use Rattle.sets.proofs.Order.{Leads, opposite, order-swap, order-told}
@@ -86,10 +87,6 @@ module _ (bits leftover : ℕ) where
             (ih (record { small = l; has = L .has; lacks = L .lacks; above = λ q k b. L .above q k (omega arith) })))
 
 -- ---- by configuration
-
--- 65 * 2 ^ B is below 128 * 2 ^ B
-pub W-lt : (c : Config) → W c < 2 ^ positionBits c
-W-lt c = rw pow-add (omega (arith, pow-pos (c .B)))
 
 module _ (c : Config) where
   leftover-fits : leftoverBits c ≤ positionBits c

@@ -1,16 +1,15 @@
 -- The laws of sets told by membership, and of the falling list of a set's members. Assumes nothing.
-use mathlib.Core.Path.{_≡_, refl, sym, ap, ap₂, _∙_, subst, fun-ext}
+use mathlib.Core.Path.{_≡_, refl, sym, ap, ap₂, _∙_, fun-ext}
 use mathlib.Core.Bool.{Bool, true, false, cond, _&&_}
-use mathlib.Core.Logic.{_⊎_, inl, inr, ⊎-elim}
 use mathlib.Core.List.{List, [], _∷_, _++_}
 use Prim.Native.Nat.{ℕ, zero, suc, _+_, _≤_, _<_}
 use native.Mathlib.Nat.{add-zero, add-suc}
 use native.Mathlib.Decide.{le-ind, decLt, ℕ-discrete}
 use native.Mathlib.Omega.{arith}
 use lib.Dec.{ltb, eqb}
-use lib.ListN.{length, getD}
-use borrow.Author.Tests.{lt-ltb, le-ltb, eq-eqb, ne-eqb}
-use Rattle.sets.specs.Sets.{Falls, Set, apart, below, differ, flip, flips, members, none, odd}
+use lib.ListN.{length, getD, take}
+use borrow.Author.Tests.{lt-ltb, le-ltb, le-leb, lt-leb, eq-eqb, ne-eqb}
+use Rattle.sets.specs.Sets.{Falls, Set, apart, below, differ, flip, flips, members, none, odd, onward}
 
 -- ---- differ is a sum without carry
 
@@ -96,13 +95,26 @@ pub flips-append : (bs cs : List ℕ) (S : Set) → flips (bs ++ cs) S ≡ flips
 flips-append [] cs S = refl
 flips-append (b ∷ bs) cs S = flips-append bs cs (flip b S)
 
--- ---- below
+-- ---- below and onward
 
 pub below-in : (b : ℕ) (S : Set) (p : ℕ) → p < b → below b S p ≡ S p
-below-in b S p h = ap (λ (x : Bool). _&&_ x (S p)) (lt-ltb p b h)
+below-in b S p h = ap (λ (x : Bool). x && S p) (lt-ltb p b h)
 
 pub below-out : (b : ℕ) (S : Set) (p : ℕ) → b ≤ p → below b S p ≡ false
-below-out b S p h = ap (λ (x : Bool). _&&_ x (S p)) (le-ltb p b h)
+below-out b S p h = ap (λ (x : Bool). x && S p) (le-ltb p b h)
+
+pub onward-in : (b : ℕ) (S : Set) (p : ℕ) → b ≤ p → onward b S p ≡ S p
+onward-in b S p h = ap (λ (x : Bool). x && S p) (le-leb b p h)
+
+pub onward-out : (b : ℕ) (S : Set) (p : ℕ) → p < b → onward b S p ≡ false
+onward-out b S p h = ap (λ (x : Bool). x && S p) (lt-leb b p h)
+
+pub below-same : (b : ℕ) (S R : Set) → ((p : ℕ) → p < b → S p ≡ R p) → (p : ℕ) → below b S p ≡ below b R p
+below-same b S R h p = go (decLt p b)
+  where
+    go : Dec (p < b) → below b S p ≡ below b R p
+    go (yes l) = ap (_&&_ (ltb p b)) (h p l)
+    go (no l) = below-out b S p (omega arith) ∙ sym (below-out b R p (omega arith))
 
 -- ---- members
 
@@ -136,6 +148,26 @@ members-head S p n l h g =
 pub falls-more : (l : List ℕ) {m n : ℕ} → m ≤ n → Falls m l → Falls n l
 falls-more [] h f = tt
 falls-more (x ∷ xs) h f = (omega (arith, f .0), f .1)
+
+pub falls-take : (l : List ℕ) (n m : ℕ) → Falls n l → Falls n (take m l)
+falls-take [] n zero f = tt
+falls-take [] n (suc m) f = tt
+falls-take (x ∷ xs) n zero f = tt
+falls-take (x ∷ xs) n (suc m) f = (f .0, falls-take xs x m (f .1))
+
+-- under the bucket at i there is room for the i before it
+pub falls-room : (l : List ℕ) (n i : ℕ) → Falls n l → i < length l → getD l i 0 + i < n
+falls-room [] n i f h = absurd (omega arith)
+falls-room (x ∷ xs) n zero f h = omega (arith, f .0)
+falls-room (x ∷ xs) n (suc i) f h = omega (arith, falls-room xs x i (f .1) (omega arith), f .0)
+
+-- a later bucket is smaller
+pub falls-order : (l : List ℕ) (n i j : ℕ) → Falls n l → i ≤ j → j < length l → getD l j 0 ≤ getD l i 0
+falls-order [] n i j f h a = absurd (omega arith)
+falls-order (x ∷ xs) n zero zero f h a = omega arith
+falls-order (x ∷ xs) n zero (suc j) f h a = omega (arith, falls-room xs x j (f .1) (omega arith))
+falls-order (x ∷ xs) n (suc i) zero f h a = absurd (omega arith)
+falls-order (x ∷ xs) n (suc i) (suc j) f h a = falls-order xs x i j (f .1) (omega arith) (omega arith)
 
 -- the members fall from below n
 pub members-fall : (S : Set) (n : ℕ) → Falls n (members S n)
@@ -174,6 +206,20 @@ members-odd S (suc n) p = go (members-odd S n p) (S n) refl (ℕ-discrete p n)
     go ih true e (no q) = ap₂ differ (ne-eqb p n q) ih ∙ below-more n S p q
     go ih false e (yes q) = ih ∙ below-out n S p (omega arith) ∙ sym e ∙ ap S (sym q) ∙ sym (below-in (suc n) S p (omega arith))
     go ih false e (no q) = ih ∙ below-more n S p q
+
+members-none-back : (S : Set) (n : ℕ) → members S n ≡ [] → (p : ℕ) → p < n → S p ≡ false
+members-none-back S n e p h = sym (below-in n S p h) ∙ sym (members-odd S n p) ∙ ap (λ (l : List ℕ). odd l p) e
+
+-- no member stands from b on exactly when none is listed
+pub onward-none : (b : ℕ) (S : Set) (n : ℕ) → ((p : ℕ) → b ≤ p → p < n → S p ≡ false) → members (onward b S) n ≡ []
+onward-none b S n h = members-none (onward b S) n (λ p l. go p l (decLt p b))
+  where
+    go : (p : ℕ) → p < n → Dec (p < b) → onward b S p ≡ false
+    go p l (yes a) = onward-out b S p a
+    go p l (no a) = onward-in b S p (omega arith) ∙ h p (omega arith) l
+
+pub onward-none-back : (b : ℕ) (S : Set) (n : ℕ) → members (onward b S) n ≡ [] → (p : ℕ) → b ≤ p → p < n → S p ≡ false
+onward-none-back b S n e p a l = sym (onward-in b S p a) ∙ members-none-back (onward b S) n e p l
 
 -- a falling list with the same membership is the list of the members
 pub members-unique : (l : List ℕ) (S : Set) (n : ℕ) → Falls n l → ((p : ℕ) → p < n → odd l p ≡ S p) → l ≡ members S n

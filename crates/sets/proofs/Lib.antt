@@ -1,16 +1,21 @@
 -- The laws of the definitions of specs/.
 pub mod Configurations
 pub mod Laws
+pub mod Lists
+pub mod Tests
 pub mod Words
 pub mod Lift
-pub mod Lists
 pub mod Filters
+pub mod Split
 pub mod Shown
 pub mod Canon
+pub mod Areas
 pub mod Counts
 pub mod Masks
 pub mod Order
-pub mod Areas
 pub mod Keys
+pub mod Bytes
+pub mod Rows
+pub mod Reading
 pub mod Reader
 pub mod Edges

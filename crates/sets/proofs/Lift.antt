@@ -1,15 +1,15 @@
 -- The largest members of a set, taken out of it one by one from the top. Assumes nothing.
-use mathlib.Core.Path.{_≡_, refl, sym, ap, ap₂, _∙_, subst}
-use mathlib.Core.Bool.{Bool, true, false, true≢false}
+use mathlib.Core.Path.{_≡_, refl, sym, ap, _∙_}
+use mathlib.Core.Bool.{true, false, true≢false}
 use mathlib.Core.List.{List, [], _∷_, _++_, append-assoc, append-nil}
-use Prim.Native.Nat.{ℕ, zero, suc, _+_, _-_, _*_, _/_, _≤_, _<_, min}
+use Prim.Native.Nat.{ℕ, suc, _-_, _≤_, _<_}
 use native.Mathlib.Decide.{decLt, ℕ-discrete}
 use native.Mathlib.Omega.{arith}
-use lib.ListN.{length, getD, take, drop, set, length-append, length-take, List·getD-append, List·getD-eq-default}
-use lib.Seq.{getD-append-seam, getD-take, length-take-le, take-append-seam, take-all}
+use lib.ListN.{length, getD, length-append, List·getD-append, List·getD-eq-default}
+use lib.Seq.{getD-append-seam}
 use Rattle.sets.specs.Sets.{Set, below, differ, flip, members}
-use Rattle.sets.specs.Filter.{boundary, topCount}
-use Rattle.sets.proofs.Laws.{flip-at, flip-other, below-in, below-out, members-head, members-none, members-same}
+use Rattle.sets.specs.Filter.{boundary}
+use Rattle.sets.proofs.Laws.{flip-at, flip-other, below-in, below-out, members-head, members-none}
 
 -- Of the members of S below n, those of the list `tops` are taken out, all that stand from `edge` on, and R is what is left.
 pub record Lifting (S : Set) (n : ℕ) (tops : List ℕ) (R : Set) (edge : ℕ) : Type 0 where

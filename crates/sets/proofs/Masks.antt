@@ -7,16 +7,16 @@ use lib.Bits.{bitAnd, and-comm}
 use Rattle.sets.specs.Sets.{Set, apart, differ}
 use Rattle.sets.specs.Words.{blockAt, digit}
 use Rattle.sets.specs.Masks.{kept, laid}
-use Rattle.sets.proofs.Shown.{and-left, and-right}
+use Rattle.sets.proofs.Tests.{and-left, and-right}
 use Rattle.sets.proofs.Words.{digit-zero, digit-word, word-both}
 
 pub kept-zero : (size : ℕ) (S : Set) (p : ℕ) → kept 0 size S p ≡ false
-kept-zero size S p = ap (λ (b : Bool). _&&_ b (S p)) (digit-zero (p % size))
+kept-zero size S p = ap (λ (b : Bool). b && S p) (digit-zero (p % size))
 
 pub laid-again : (mask size p : ℕ) → laid mask size (p + size) ≡ laid mask size p
 laid-again mask size p = ap (digit mask) (add-mod-right p size)
 
-and-differ : (a b c : Bool) → _&&_ a (differ b c) ≡ differ (_&&_ a b) (_&&_ a c)
+and-differ : (a b c : Bool) → (a && differ b c) ≡ differ (a && b) (a && c)
 and-differ true b c = refl
 and-differ false b c = refl
 
@@ -25,7 +25,7 @@ module _ (mask size : ℕ) where
   kept-laid S p h = and-left (laid mask size p) (S p) h
 
   pub kept-at : (S : Set) (p : ℕ) → laid mask size p ≡ true → kept mask size S p ≡ S p
-  kept-at S p h = ap (λ (b : Bool). _&&_ b (S p)) h
+  kept-at S p h = ap (λ (b : Bool). b && S p) h
 
   pub kept-in : (S : Set) (p : ℕ) → kept mask size S p ≡ true → S p ≡ true
   kept-in S p h = and-right (laid mask size p) (S p) h

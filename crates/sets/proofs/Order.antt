@@ -4,15 +4,12 @@ use mathlib.Core.Bool.{Bool, true, false, true≢false, cond}
 use Prim.Native.Nat.{ℕ, zero, suc, _<_}
 use native.Mathlib.Decide.{decLt, ℕ-discrete}
 use native.Mathlib.Omega.{arith}
-use Rattle.sets.specs.Sets.{Set, apart, differ}
+use Rattle.sets.specs.Sets.{Agree, Set, apart, differ}
 use Rattle.sets.specs.Masks.{Ordering, less, equal, greater, holder, kept, orderOf}
 use Rattle.sets.proofs.Laws.{differ-self, members-head, members-none}
 use Rattle.sets.proofs.Masks.{kept-apart-at, kept-laid, kept-at, kept-same}
 
 -- ---- two sets, seen from the top
-
-abbrev pub Agree : ℕ → Set → Set → Type 0
-Agree n A B = (p : ℕ) → p < n → A p ≡ B p
 
 -- p is the largest bucket below n that exactly one of the two holds, and A holds it
 pub record Leads (n : ℕ) (A B : Set) (p : ℕ) : Type 0 where

@@ -3,20 +3,20 @@ use mathlib.Core.Path.{_≡_, refl, sym, ap, ap₂, _∙_, subst, fun-ext}
 use mathlib.Core.Bool.{Bool, true, false, true≢false, cond, _&&_}
 use mathlib.Core.List.{List, [], _∷_, _++_}
 use Prim.Native.Nat.{ℕ, zero, suc, _+_, _-_, _*_, _/_, _%_, _^_, _≤_, _<_, min}
-use native.Mathlib.Nat.{div-add-mod', mod-lt, pow-suc, add-comm, zero-add, add-zero, mul-one, div-one, div-eq-of-lt, div-eq-of-lt-le, mod-eq-of-lt, mod-self, mul-add-mod-self-right, zero-lt-suc, lt-of-lt-of-le}
+use native.Mathlib.Nat.{pow-suc, add-comm, div-eq-of-lt, div-eq-of-lt-le, mod-eq-of-lt, mod-self, mul-add-mod-self-right, lt-of-lt-of-le}
 use native.Mathlib.Decide.{decLt, ℕ-discrete}
 use native.Mathlib.Numerals.{add-one}
 use native.Mathlib.Omega.{arith}
-use lib.Dec.{ltb, eqb}
+use lib.Dec.{eqb}
 use lib.ListN.{length, getD, set, drop, length-set}
 use lib.Seq.{getD-set-same, getD-set-other, drop-set-lt}
-use lib.Pow.{pow-pos, pow-mono, pow-lt, pow-add, high, low, field, mod-mod-pow, shr-shr, shr-lt, shl-shr}
+use lib.Pow.{pow-pos, pow-mono, pow-lt, high, low, field, mod-mod-pow, shr-shr, shr-lt}
 use lib.Bits.{bitAnd, bitXor, and-shr, and-step, and-lt, xor-shr, xor-step, xor-lt}
-use lib.Count.{ones, onesIn, ones-cat, ones-step, leadingZeros, leading-top}
-use borrow.Author.Tests.{lt-ltb, le-ltb, eq-eqb, ne-eqb}
-use Rattle.sets.specs.Sets.{Below, Set, apart, below, differ, flip, flips, members, none}
+use lib.Count.{ones, onesIn, ones-cat, leadingZeros, leading-top}
+use borrow.Author.Tests.{eq-eqb, ne-eqb}
+use Rattle.sets.specs.Sets.{Below, Set, apart, differ, flip, flips, members}
 use Rattle.sets.specs.Words.{TopDigit, bit, blockAt, digit, flipBit, flipBits, held, word}
-use Rattle.sets.proofs.Laws.{differ-false, differ-comm, flip-other}
+use Rattle.sets.proofs.Laws.{differ-comm, flip-other}
 
 -- ---- digits
 
@@ -135,7 +135,7 @@ digit-xor a b j =
     ∙ ap (λ (x : ℕ). eqb x 1) (xor-low (a / 2 ^ j) (b / 2 ^ j))
     ∙ differ-digit (a / 2 ^ j % 2) (b / 2 ^ j % 2) (omega arith) (omega arith)
 
-min-digit : (x y : ℕ) → x < 2 → y < 2 → eqb (min x y) 1 ≡ _&&_ (eqb x 1) (eqb y 1)
+min-digit : (x y : ℕ) → x < 2 → y < 2 → eqb (min x y) 1 ≡ (eqb x 1 && eqb y 1)
 min-digit zero zero hx hy = refl
 min-digit zero (suc zero) hx hy = refl
 min-digit zero (suc (suc y)) hx hy = absurd (omega arith)
@@ -150,7 +150,7 @@ and-low a b =
     ∙ mul-add-mod-self-right (bitAnd (a / 2) (b / 2)) 2 (min (a % 2) (b % 2))
     ∙ mod-eq-of-lt (omega arith)
 
-pub digit-and : (a b j : ℕ) → digit (bitAnd a b) j ≡ _&&_ (digit a j) (digit b j)
+pub digit-and : (a b j : ℕ) → digit (bitAnd a b) j ≡ (digit a j && digit b j)
 unfolding digit
 digit-and a b j =
     ap (λ (x : ℕ). eqb (x % 2) 1) (and-shr a b j)
@@ -174,9 +174,9 @@ word-apart S R from n =
     digits-same n (word (apart S R) from n) (bitXor (word S from n) (word R from n)) (word-lt (apart S R) from n) (xor-lt n (word S from n) (word R from n) (word-lt S from n) (word-lt R from n))
     (λ j l. digit-word (apart S R) from n j l ∙ sym (digit-xor (word S from n) (word R from n) j ∙ ap₂ differ (digit-word S from n j l) (digit-word R from n j l)))
 
-pub word-both : (S R : Set) (from n : ℕ) → word (λ p. _&&_ (S p) (R p)) from n ≡ bitAnd (word S from n) (word R from n)
+pub word-both : (S R : Set) (from n : ℕ) → word (λ p. S p && R p) from n ≡ bitAnd (word S from n) (word R from n)
 word-both S R from n =
-    let both : Set = λ p. _&&_ (S p) (R p) in
+    let both : Set = λ p. S p && R p in
     let v : ℕ = word S from n in
     let w : ℕ = word R from n in
     digits-same n (word both from n) (bitAnd v w) (word-lt both from n) (and-lt n v w (word-lt S from n) (word-lt R from n))

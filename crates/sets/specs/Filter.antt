@@ -1,6 +1,6 @@
 -- 01, "The filter of a set". Of a set of the buckets below n that keeps m of them in its top list; then by configuration.
 use mathlib.Core.Bool.{Bool, cond, _&&_, _||_}
-use mathlib.Core.List.{List, [], _∷_, _++_}
+use mathlib.Core.List.{List, _++_}
 use mathlib.Core.Path.{_≡_}
 use Prim.Native.Nat.{ℕ, _-_, _+_, _*_, min}
 use lib.Dec.{eqb, leb}
@@ -45,9 +45,13 @@ pub record Holds (m k : ℕ) (top blocks : List ℕ) (count edge : ℕ) (S : Set
 
 -- ---- what record and areas show
 
+-- the buckets listed, and those of R below the edge
+abbrev pub joined : List ℕ → ℕ → Set → Set
+joined ps edge R p = among ps p || below edge R p
+
 -- p stands in the first `count` top cells, or is below the boundary and its bit is set
 abbrev pub shown : List ℕ → List ℕ → ℕ → ℕ → Set
-shown top blocks count edge p = among (take count top) p || below edge (held blocks) p
+shown top blocks count edge = joined (take count top) edge (held blocks)
 
 -- 01, refusal 8: "record and areas are no set's filter". They are some set's exactly where they are that of the set that they show.
 unfoldable pub isFilterOf : ℕ → ℕ → List ℕ → List ℕ → ℕ → ℕ → Set → Bool

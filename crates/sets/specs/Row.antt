@@ -114,9 +114,9 @@ unfoldable pub highFault : Config → List ℕ → Fault
 highFault c bs =
     lowest (topBytes c + 1) (members (onward (rowBoundary c bs) (held (rowBlocks c bs))) (64 * rowBlockCount c bs))
 
+abbrev pub faultless : Config → List ℕ → Bool
+faultless c bs = sound (fallFault c bs) && (sound (countFault c bs) && (sound (spareFault c bs) && sound (highFault c bs)))
+
 -- 01: "Reading accepts exactly the rows of sets"
 unfoldable pub isRow : Config → List ℕ → Bool
-isRow c bs =
-    lengthFits c bs
-    && (entriesFit c bs
-    && (sound (fallFault c bs) && (sound (countFault c bs) && (sound (spareFault c bs) && sound (highFault c bs)))))
+isRow c bs = lengthFits c bs && (entriesFit c bs && faultless c bs)

@@ -2,7 +2,7 @@
 use mathlib.Core.Path.{_≡_}
 use mathlib.Core.Bool.{Bool, true, false, cond, _&&_, _||_}
 use mathlib.Core.List.{List, [], _∷_}
-use Prim.Native.Nat.{ℕ, zero, suc, _+_, _<_}
+use Prim.Native.Nat.{ℕ, zero, suc, _<_}
 use lib.Dec.{ltb, leb, eqb}
 use lib.ListN.{length, getD}
 
@@ -37,6 +37,10 @@ below b S p = ltb p b && S p
 
 abbrev pub onward : ℕ → Set → Set
 onward b S p = leb b p && S p
+
+-- the same set of the buckets below n
+abbrev pub Agree : ℕ → Set → Set → Type 0
+Agree n S T = (p : ℕ) → p < n → S p ≡ T p
 
 -- the members of S below n, from the largest down
 unfoldable pub members : Set → ℕ → List ℕ
