@@ -23,7 +23,7 @@ use Rattle.sets.specs.Filter.{boundary, isBuilder, exactCountAt, limited
 use Rattle.sets.specs.Masks.{Ordering, less, equal, greater, kept, orderOf, packed, keyOf}
 use Rattle.sets.specs.Row.{little, bytesOf, row, shownRow, Fault, nowhere, place, fallFault, countFault, spareFault, highFault}
 use Rattle.sets.specs.Refusals.{Verdict, taken, refused, verdict, areBuckets, isMask, isRowOf}
-use Rattle.sets.specs.Text.{text, orderWord, compareText}
+use Rattle.sets.specs.Text.{text, orderWord, overlap, compareText}
 
 -- the set of the buckets toggled, from the empty filter
 abbrev pub set : List ℕ → Set
@@ -70,6 +70,7 @@ pub data Case : Type 0 where
   orderIs : (first second : List ℕ) (mask size : ℕ) (answer : Ordering) → Case
   -- with zeros behind these first cells, a builder is sound, or not
   isBuilderIs : (pending blocks : List ℕ) (count split : ℕ) (answer : Bool) → Case
+  overlapIs : (first second difference answer : ℕ) → Case
   prints : (input output : String) → Case
   -- so many newlines and nothing else
   printsBlank : (newlines : ℕ) (output : String) → Case
@@ -107,6 +108,7 @@ holds (orderIs first second mask size answer) =
     same (orderWord (orderOf (W seven) mask size (set first) (set second))) (orderWord answer)
 holds (isBuilderIs pending bits count split answer) =
     not (differ (isBuilder 12 8320 (pending ++ replicate 24 0) (bits ++ replicate 130 0) count split) answer)
+holds (overlapIs a b d answer) = eqb (overlap a b d) answer
 holds (prints input output) = same (compareText (text input)) (text output)
 holds (printsBlank newlines output) = same (compareText (replicate newlines 10)) (text output)
 
@@ -215,10 +217,13 @@ traps =
     ∷ prints
     "config 7\nmask 1 1\n0500\n05000000\n"
     "config 7\nones 1 2\nlimited 1 0 2 0\ndifference 1 1 0\norder less\nkey 0014000000000000 0014000000000000\noverlap 666\n"
-    -- the bare word, and two empty rows
-    ∷ prints
-    "config\nmask 0 63\n\n\n"
-    "config 7\nones 0 0\nlimited 0 0 0 0\ndifference 0 0 0\norder equal\nkey 0000000000000000 0000000000000000\noverlap 0\n"
+    -- the bare word means 7, whose entries have two bytes: the first row is taken, and the second is half an entry
+    ∷ prints "config\nmask 1 1\n0500\n05\n" "refused 4 4\n"
+    ∷ prints "config 10\nmask 1 1\n0500\n05\n" "refused 4 3\n"
+    -- overlap of two empty sets, of equal ones, and rounded down
+    ∷ overlapIs 0 0 0 0
+    ∷ overlapIs 3 3 0 1000
+    ∷ overlapIs 1 2 1 666
     -- the configuration is judged as text
     ∷ prints "config 07\n" "refused 1 1\n"
     ∷ prints "config 13\nmask 1 1\n\n\n" "refused 1 1\n"
