@@ -10,8 +10,8 @@ use lib.ListN.{length, getD, take, length-drop, List·getD-eq-default}
 use lib.Seq.{getD-take, take-all}
 use Rattle.sets.specs.Sets.{Set, below, onward, members}
 use Rattle.sets.specs.Filter.{topCount, boundary, exactCount, lastEntry, low, limitedCount, limitedBound}
-use Rattle.sets.proofs.Laws.{members-same, members-gap, members-none, members-fall, below-in, below-out, onward-in, onward-out}
-use Rattle.sets.proofs.Filters.{members-drop, drop-edge, falls-at}
+use Rattle.sets.proofs.Laws.{members-same, members-gap, members-none, members-fall, below-in, below-out, onward-in, onward-out, falls-at}
+use Rattle.sets.proofs.Filters.{members-drop, drop-edge}
 
 -- ---- at or above, and below
 

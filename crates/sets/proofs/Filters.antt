@@ -10,10 +10,10 @@ use lib.Dec.{ltb}
 use lib.ListN.{length, getD, set, take, drop, length-take, take-append-drop}
 use lib.Bits.{bitXor}
 use lib.Seq.{getD-set-same, getD-set-other, getD-take, ext-getD, length-take-le}
-use Rattle.sets.specs.Sets.{Below, Falls, Set, below, differ, flip, flips, members, odd, tabulate}
+use Rattle.sets.specs.Sets.{Agree, Below, Set, below, differ, flip, flips, members, odd, tabulate}
 use Rattle.sets.specs.Words.{blockAt, digit, flipBit, held}
 use Rattle.sets.specs.Filter.{Holds, bitCells, boundary, topCells}
-use Rattle.sets.proofs.Laws.{flips-odd, odd-append, members-same, members-odd, members-fall, falls-room, below-in}
+use Rattle.sets.proofs.Laws.{flips-odd, odd-append, members-same, members-odd, members-fall, below-in, falls-at}
 use Rattle.sets.proofs.Words.{digit-word, word-same, word-flip, word-flip-other}
 use Rattle.sets.proofs.Lists.{length-tabulate, getD-tabulate, tabulate-same}
 
@@ -76,9 +76,6 @@ flips-at bs S p = ap (λ (R : Set). R p) (flips-odd bs S)
 pub flips-agree : (bs : List ℕ) (S R : Set) (p : ℕ) → S p ≡ R p → flips bs S p ≡ flips bs R p
 flips-agree bs S R p h = flips-at bs S p ∙ ap (differ (odd bs p)) h ∙ sym (flips-at bs R p)
 
-pub falls-at : (l : List ℕ) (n i : ℕ) → Falls n l → i < length l → getD l i 0 < n
-falls-at l n i f h = omega (arith, falls-room l n i f h)
-
 -- ---- what the areas of a filter tell
 
 pub length-top : (m n : ℕ) (S : Set) → length (topCells m n S) ≡ m
@@ -136,7 +133,7 @@ module _ {m k : ℕ} {top blocks : List ℕ} {count edge : ℕ} {S : Set} (H : H
       ∙ fold-back S m (64 * k) p z h
 
 -- sets that agree on the buckets have the same filter
-module _ (m k : ℕ) (S R : Set) (h : (p : ℕ) → p < 64 * k → S p ≡ R p) where
+module _ (m k : ℕ) (S R : Set) (h : Agree (64 * k) S R) where
   same-members : members S (64 * k) ≡ members R (64 * k)
   same-members = members-same S R (64 * k) h
 

@@ -12,8 +12,7 @@ use Rattle.sets.specs.Sets.{Below, Falls, Set, members}
 use Rattle.sets.specs.Configurations.{Config, W, positionBits, wholeSlots, leftoverBits}
 use Rattle.sets.specs.Masks.{Ordering, less, equal, greater, kept, keyOf, orderOf, packed}
 use Rattle.sets.proofs.Configurations.{W-lt}
-use Rattle.sets.proofs.Laws.{members-fall, members-same}
-use Rattle.sets.proofs.Filters.{falls-at}
+use Rattle.sets.proofs.Laws.{members-fall, members-same, falls-at}
 use Rattle.sets.proofs.Order.{Leads, opposite, order-swap, order-told}
 
 head-lt : {n : ℕ} (ps : List ℕ) → 0 < n → Below n ps → getD ps 0 0 < n

@@ -9,7 +9,7 @@ use native.Mathlib.Omega.{arith}
 use lib.Dec.{ltb, eqb}
 use lib.ListN.{length, getD, take}
 use borrow.Author.Tests.{lt-ltb, le-ltb, le-leb, lt-leb, eq-eqb, ne-eqb}
-use Rattle.sets.specs.Sets.{Falls, Set, apart, below, differ, flip, flips, members, none, odd, onward}
+use Rattle.sets.specs.Sets.{Agree, Falls, Set, apart, below, differ, flip, flips, members, none, odd, onward}
 
 -- ---- differ is a sum without carry
 
@@ -109,7 +109,7 @@ onward-in b S p h = ap (λ (x : Bool). x && S p) (le-leb b p h)
 pub onward-out : (b : ℕ) (S : Set) (p : ℕ) → p < b → onward b S p ≡ false
 onward-out b S p h = ap (λ (x : Bool). x && S p) (lt-leb b p h)
 
-pub below-same : (b : ℕ) (S R : Set) → ((p : ℕ) → p < b → S p ≡ R p) → (p : ℕ) → below b S p ≡ below b R p
+pub below-same : (b : ℕ) (S R : Set) → Agree b S R → (p : ℕ) → below b S p ≡ below b R p
 below-same b S R h p = go (decLt p b)
   where
     go : Dec (p < b) → below b S p ≡ below b R p
@@ -119,7 +119,7 @@ below-same b S R h p = go (decLt p b)
 -- ---- members
 
 -- two sets that agree below n have the same members
-pub members-same : (S R : Set) (n : ℕ) → ((p : ℕ) → p < n → S p ≡ R p) → members S n ≡ members R n
+pub members-same : (S R : Set) (n : ℕ) → Agree n S R → members S n ≡ members R n
 unfolding members
 members-same S R zero h = refl
 members-same S R (suc n) h = rw (h n (omega arith), members-same S R n (λ p l. h p (omega arith)))
@@ -160,6 +160,9 @@ pub falls-room : (l : List ℕ) (n i : ℕ) → Falls n l → i < length l → g
 falls-room [] n i f h = absurd (omega arith)
 falls-room (x ∷ xs) n zero f h = omega (arith, f .0)
 falls-room (x ∷ xs) n (suc i) f h = omega (arith, falls-room xs x i (f .1) (omega arith), f .0)
+
+pub falls-at : (l : List ℕ) (n i : ℕ) → Falls n l → i < length l → getD l i 0 < n
+falls-at l n i f h = omega (arith, falls-room l n i f h)
 
 -- a later bucket is smaller
 pub falls-order : (l : List ℕ) (n i j : ℕ) → Falls n l → i ≤ j → j < length l → getD l j 0 ≤ getD l i 0
@@ -256,15 +259,9 @@ members-count S a (suc n) =
     go true h = omega arith
     go false h = h
 
--- ---- a set made of a falling list and of what stands below it (what a reader of rows builds)
+-- ---- a falling list, and another below it
 
 pub falls-append : (xs ys : List ℕ) (n e : ℕ) → Falls n xs → e ≤ n → ((i : ℕ) → i < length xs → e ≤ getD xs i 0) → Falls e ys → Falls n (xs ++ ys)
 falls-append [] ys n e f l h g = falls-more ys l g
 falls-append (x ∷ xs) ys n e f l h g =
     (f .0, falls-append xs ys x e (f .1) (h 0 (omega arith)) (λ i a. h (suc i) (omega arith)) g)
-
-pub members-join : (xs : List ℕ) (R : Set) (n e : ℕ) → Falls n xs → e ≤ n → ((i : ℕ) → i < length xs → e ≤ getD xs i 0)
-    → members (apart (odd xs) (below e R)) n ≡ xs ++ members R e
-members-join xs R n e f l h =
-    sym (members-unique (xs ++ members R e) (apart (odd xs) (below e R)) n (falls-append xs (members R e) n e f l h (members-fall R e))
-    (λ p a. odd-append xs (members R e) p ∙ ap (differ (odd xs p)) (members-odd R e p)))

@@ -18,8 +18,7 @@ use Rattle.sets.specs.Configurations.{Config, Sound, W, blocksFor, longe
 use Rattle.sets.specs.Row.{bitPart, bytesOf, faultless, numbers, row, rowBlockCount, rowBlocks, rowBoundary, rowEntries, shownRow, spareByte, topBytes}
 use Rattle.sets.specs.Row.{Fault, countFault, entriesFit, fallFault, highFault, isRow, lengthFits, lowest, nowhere, place, rising, sound, spareFault}
 use Rattle.sets.specs.Refusals.{Verdict, isRowOf, refused, taken, verdict}
-use Rattle.sets.proofs.Laws.{below-in, below-out, onward-none, onward-none-back}
-use Rattle.sets.proofs.Filters.{falls-at}
+use Rattle.sets.proofs.Laws.{below-in, below-out, onward-none, onward-none-back, falls-at}
 use Rattle.sets.proofs.Words.{held-word, word-same}
 use Rattle.sets.proofs.Lists.{below-drop, getD-tabulate, length-tabulate}
 use Rattle.sets.proofs.Tests.{and-intro, and-left, and-right, below-all, or-cases, or-left, or-right}

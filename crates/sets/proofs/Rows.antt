@@ -37,7 +37,7 @@ pub bitPart-some : (edge : ℕ) (S : Set) → (edge ≡ 0 → ⊥) → bitPart e
 unfolding bitPart
 bitPart-some edge S e = rw (ne-eqb edge 0 e)
 
-pub bitPart-same : (edge : ℕ) (S R : Set) → ((p : ℕ) → p < edge → S p ≡ R p) → bitPart edge S ≡ bitPart edge R
+pub bitPart-same : (edge : ℕ) (S R : Set) → Agree edge S R → bitPart edge S ≡ bitPart edge R
 unfolding bitPart
 bitPart-same edge S R h =
     ap (λ (X : Set). cond (eqb edge 0) [] (spareByte edge ∷ bytesOf 8 (tabulate (blocksFor edge) (blockAt X)))) (fun-ext (below-same edge S R h))

@@ -4,9 +4,10 @@ use mathlib.Core.List.{List, [], _∷_, _++_}
 use Prim.Native.Nat.{ℕ, zero, suc}
 use lib.Dec.{eqb, leb}
 use lib.ListN.{length}
-use Rattle.sets.specs.Sets.{allBelow}
-use Rattle.sets.specs.Configurations.{Config, W, known}
-use Rattle.sets.specs.Masks.{sizeFits, maskFits}
+use Rattle.sets.specs.Sets.{Set, allBelow}
+use Rattle.sets.specs.Configurations.{Config, W, blocks, known}
+use Rattle.sets.specs.Filter.{FilterRecord, isFilter, isBuilder}
+use Rattle.sets.specs.Masks.{sizeFits, maskFits, slotsFit}
 use Rattle.sets.specs.Row.{lengthFits, entriesFit, sound, fallFault, countFault, spareFault, highFault}
 
 -- what a test looks at
@@ -77,7 +78,7 @@ abbrev pub answer : {A : Type 0} → Verdict → (ℕ → A) → A → A
 answer taken onRefusal a = a
 answer (refused n) onRefusal a = onRefusal n
 
--- ---- the tests that more than one call names
+-- ---- the tests, by number
 
 -- 1: "the configuration is not 7, 10 or 13"
 abbrev pub isKnown : ℕ → Test
@@ -97,6 +98,13 @@ holdsArea cells slice = (room, leb cells (length slice))
 abbrev pub holdsRow : List ℕ → List ℕ → Test
 holdsRow written slice = (buffer, leb (length written) (length slice))
 
+-- 8: "record and areas are no set's filter; or the builder has .."
+abbrev pub areFilter : Config → FilterRecord → List ℕ → List ℕ → Test
+areFilter c r top bits = (soundness, isFilter (c .M) (blocks c) top bits (r .count) (r .boundary))
+
+abbrev pub areBuilder : Config → List ℕ → List ℕ → ℕ → ℕ → Test
+areBuilder c pending bits count split = (soundness, isBuilder (c .M) (W c) pending bits count split)
+
 -- 9: "two filters have different configurations"
 abbrev pub areAlike : ℕ → ℕ → Test
 areAlike n o = (likeness, eqb n o)
@@ -104,6 +112,10 @@ areAlike n o = (likeness, eqb n o)
 -- 6 and 7
 abbrev pub isMask : ℕ → ℕ → List Test
 isMask mask size = (maskSize, sizeFits size) ∷ (maskBits, maskFits mask size) ∷ []
+
+-- 10: "a bucket does not fit its key slot"
+abbrev pub fitsSlots : Config → ℕ → ℕ → Set → Test
+fitsSlots c mask size S = (slot, slotsFit c mask size S)
 
 -- 4, 2 and 5 of a row
 abbrev pub isRowOf : Config → List ℕ → List Test

@@ -43,6 +43,12 @@ orMalformed (some a) line f = f a
 
 -- ---- words, decimals, hex
 
+abbrev pub newline : ℕ
+newline = 10
+
+abbrev pub space : ℕ
+space = 32
+
 -- what stands before the first such byte, and what after it
 pub data Cut : Type 0 where
   whole : Cut
@@ -141,7 +147,7 @@ twoDecimals (cut v s) = orMalformed (decimal v) 2 (λ mask. orMalformed (decimal
 
 -- 01: "`mask V SIZE`"
 unfoldable pub maskLine : List ℕ → Judged Mask
-maskLine bs = orMalformed (after (text "mask ") bs) 2 (λ rest. twoDecimals (cutAt 32 rest))
+maskLine bs = orMalformed (after (text "mask ") bs) 2 (λ rest. twoDecimals (cutAt space rest))
 
 -- 01: "two rows in lower-case hex, each line possibly blank, which is the empty row"
 unfoldable pub rowLine : Config → ℕ → List ℕ → Judged (List ℕ)
@@ -192,17 +198,17 @@ nothingFollows (b ∷ bs) a = malformed 5
 
 unfoldable pub judgedRows : Config → Mask → List ℕ → Judged (List ℕ)
 judgedRows c m bs =
-    atLine 3 (cutAt 10 bs) (λ third rest.
+    atLine 3 (cutAt newline bs) (λ third rest.
     andThen (rowLine c 3 third) (λ first.
-    atLine 4 (cutAt 10 rest) (λ fourth tail.
+    atLine 4 (cutAt newline rest) (λ fourth tail.
     andThen (rowLine c 4 fourth) (λ second.
     nothingFollows tail (compared c m (shownRow c first) (shownRow c second))))))
 
 unfoldable pub judgedInput : List ℕ → Judged (List ℕ)
 judgedInput bs =
-    atLine 1 (cutAt 10 bs) (λ first rest.
+    atLine 1 (cutAt newline bs) (λ first rest.
     andThen (configLine first) (λ n.
-    atLine 2 (cutAt 10 rest) (λ second tail.
+    atLine 2 (cutAt newline rest) (λ second tail.
     andThen (maskLine second) (λ m. judgedRows (configAt n) m tail))))
 
 -- 01: "A refusal is one line, `refused N L`: number and input line."
