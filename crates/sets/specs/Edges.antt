@@ -26,8 +26,8 @@ use Rattle.sets.specs.Refusals.{Verdict, taken, refused, verdict, areBuc
 use Rattle.sets.specs.Text.{text, orderWord, overlap, compareText}
 
 -- the set of the buckets toggled, from the empty filter
-abbrev pub set : List ℕ → Set
-set list = flips list none
+abbrev pub flipped : List ℕ → Set
+flipped list = flips list none
 
 -- n buckets from `last` up, listed from the largest down
 unfoldable pub down : ℕ → ℕ → List ℕ
@@ -80,7 +80,7 @@ holds (figuresAre c figures) =
     same
     (W c ∷ blocks c ∷ positionBits c ∷ windowBlocks c ∷ longestRow c ∷ wholeSlots c ∷ leftoverBits c ∷ [])
     figures
-holds (hasRow toggled bytes) = same (row seven (set toggled)) bytes
+holds (hasRow toggled bytes) = same (row seven (flipped toggled)) bytes
 holds (shows bytes ps) =
     eqb (refusedBy (verdict (isRowOf seven bytes))) 0 && same (members (shownRow seven bytes) (W seven)) ps
 holds (refusesRow bytes number) = eqb (refusedBy (verdict (isRowOf seven bytes))) number
@@ -92,20 +92,20 @@ holds (faultsAt bytes places) =
     ++ placeOf (highFault seven bytes))
     places
 holds (bitPartIs toggled long edge spare block) =
-    let bytes = row seven (set toggled) in
+    let bytes = row seven (flipped toggled) in
     eqb (length bytes) long
-    && (eqb (boundary 12 8320 (set toggled)) edge && (eqb (getD bytes 24 0) spare && eqb (little (take 8 (drop 25 bytes))) block))
+    && (eqb (boundary 12 8320 (flipped toggled)) edge && (eqb (getD bytes 24 0) spare && eqb (little (take 8 (drop 25 bytes))) block))
 holds (refusesList list number) = eqb (refusedBy (verdict (areBuckets seven list ∷ []))) number
-holds (exactIs toggled count) = eqb (exactCountAt seven (set toggled)) count
+holds (exactIs toggled count) = eqb (exactCountAt seven (flipped toggled)) count
 holds (limitedIs toggled count bound) =
-    eqb (limitedCountAt seven (set toggled)) count && eqb (limitedBoundAt seven (set toggled)) bound
+    eqb (limitedCountAt seven (flipped toggled)) count && eqb (limitedBoundAt seven (flipped toggled)) bound
 holds (keeps mask size bucket answer) = not (differ (kept mask size (λ p. true) bucket) answer)
 holds (refusesMask mask size number) = eqb (refusedBy (verdict (isMask mask size))) number
-holds (keyIs toggled mask size key) = eqb (keyOf seven mask size (set toggled)) key
-holds (keyLowByteIs toggled mask size byte) = eqb (keyOf seven mask size (set toggled) % 256) byte
+holds (keyIs toggled mask size key) = eqb (keyOf seven mask size (flipped toggled)) key
+holds (keyLowByteIs toggled mask size byte) = eqb (keyOf seven mask size (flipped toggled) % 256) byte
 holds (packs c ps key) = eqb (packed (positionBits c) (leftoverBits c) (wholeSlots c) ps) key
 holds (orderIs first second mask size answer) =
-    same (orderWord (orderOf (W seven) mask size (set first) (set second))) (orderWord answer)
+    same (orderWord (orderOf (W seven) mask size (flipped first) (flipped second))) (orderWord answer)
 holds (isBuilderIs pending bits count split answer) =
     not (differ (isBuilder 12 8320 (pending ++ replicate 24 0) (bits ++ replicate 130 0) count split) answer)
 holds (overlapIs a b d answer) = eqb (overlap a b d) answer
