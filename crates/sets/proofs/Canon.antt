@@ -2,18 +2,17 @@
 use mathlib.Core.Path.{_≡_, refl, sym, ap, _∙_, subst}
 use mathlib.Core.Bool.{Bool, true, false}
 use mathlib.Core.List.{List}
-use Prim.Native.Nat.{ℕ, _+_, _-_, _*_, _^_, _≤_, _<_}
+use Prim.Native.Nat.{ℕ, _-_, _*_, _^_, _≤_, _<_}
 use native.Mathlib.Decide.{decLt}
 use native.Mathlib.Omega.{arith}
 use lib.ListN.{length, getD, take, length-take, List·getD-eq-default}
-use lib.Seq.{getD-take, ext-getD, length-take-le}
-use Rattle.sets.specs.Sets.{Falls, Set, below, members}
+use lib.Seq.{getD-take, length-take-le}
+use Rattle.sets.specs.Sets.{Empty, Falls, Set, below, members, tabulate}
 use Rattle.sets.specs.Words.{blockAt, held}
 use Rattle.sets.specs.Filter.{Holds, bitCells, boundary, isFilter, shown, topCells}
 use Rattle.sets.proofs.Laws.{members-fall, falls-take, below-out}
-use Rattle.sets.proofs.Words.{held-word, word-same}
-use Rattle.sets.proofs.Lists.{length-tabulate, getD-tabulate}
-use Rattle.sets.proofs.Filters.{top-at, holds-tops, holds-bits}
+use Rattle.sets.proofs.Lists.{take-tabulate}
+use Rattle.sets.proofs.Filters.{held-blocks, top-at, holds-tops, holds-bits}
 use Rattle.sets.proofs.Split.{Split, joined-top, joined-edge, joined-bit}
 use Rattle.sets.proofs.Shown.{holds-filter, filter-holds}
 
@@ -23,7 +22,7 @@ pub record Canon (m k : ℕ) (top blocks : List ℕ) (count edge : ℕ) : Type 0
   pub falling : Falls (64 * k) (take count top)
   pub unused : (i : ℕ) → count ≤ i → i < m → getD top i 0 ≡ 0
   pub edgeIs : edge ≡ getD top (m - 1) 0
-  pub clear : (p : ℕ) → edge ≤ p → p < 64 * k → held blocks p ≡ false
+  pub clear : Empty (held blocks) edge (64 * k)
 
 module _ {m k : ℕ} {top blocks : List ℕ} {count edge : ℕ} (z : 0 < m) (n : m ≤ length top) (C : Canon m k top blocks count edge) where
   count-is : length (take count top) ≡ count
@@ -54,18 +53,9 @@ module _ {m k : ℕ} {top blocks : List ℕ} {count edge : ℕ} (z : 0 < m) (n :
       record {
         countIs = sym count-is ∙ ap length (sym t) ∙ length-take m l;
         edgeIs = e;
-        tops = ext-getD 0 (take m top) (topCells m (64 * k) S) (length-take-le m top n ∙ sym (length-tabulate m _))
-            (λ i h.
-            let h′ : i < m = omega (arith, length-take-le m top n) in
-            getD-take m top i 0 h′ ∙ cell i h′ ∙ ap (λ (x : List ℕ). getD x i 0) (sym t)
-            ∙ getD-take m l i 0 h′ ∙ sym (getD-tabulate m (λ j. getD l j 0) i 0 h′));
-        bits = ext-getD 0 (take k blocks) (bitCells m (64 * k) k S) (length-take-le k blocks nb ∙ sym (length-tabulate k _))
-            (λ i h.
-            let h′ : i < k = omega (arith, length-take-le k blocks nb) in
-            getD-take k blocks i 0 h′ ∙ sym (held-word blocks i (fit i))
-            ∙ word-same (held blocks) (below edge S) (64 * i) 64 (λ j b. joined-bit z canon-split (held blocks) (64 * k) (C .clear) (64 * i + j) (omega arith))
-            ∙ ap (λ (x : ℕ). blockAt (below x S) i) e
-            ∙ sym (getD-tabulate k (blockAt (below (boundary m (64 * k) S) S)) i 0 h′));
+        tops = take-tabulate m (λ i. getD l i 0) top n (λ i h. cell i h ∙ ap (λ (x : List ℕ). getD x i 0) (sym t) ∙ getD-take m l i 0 h);
+        bits = held-blocks k blocks (below edge S) nb fit (λ p h. joined-bit z canon-split (held blocks) (64 * k) (C .clear) p h)
+            ∙ ap (λ (x : ℕ). tabulate k (blockAt (below x S))) e;
       }
 
 pub holds-canon : {m k : ℕ} {top blocks : List ℕ} {count edge : ℕ} {S : Set} → 0 < m → Holds m k top blocks count edge S → Canon m k top blocks count edge

@@ -2,13 +2,13 @@
 use mathlib.Core.Path.{_≡_, sym, ap, ap₂, _∙_}
 use mathlib.Core.Bool.{Bool, true, false, cond, and-false, _&&_}
 use mathlib.Core.List.{List, [], _∷_}
-use Prim.Native.Nat.{ℕ, suc, _+_, _-_, _*_, _≤_, _<_}
+use Prim.Native.Nat.{ℕ, suc, _+_, _-_, _*_, _/_, _≤_, _<_, min}
 use native.Mathlib.Decide.{le-ind, decLt}
 use native.Mathlib.Omega.{arith}
 use lib.Dec.{leb}
 use lib.ListN.{length, getD, take, length-drop, List·getD-eq-default}
 use lib.Seq.{getD-take, take-all}
-use Rattle.sets.specs.Sets.{Set, below, onward, members}
+use Rattle.sets.specs.Sets.{Agree, Set, below, onward, members}
 use Rattle.sets.specs.Filter.{topCount, boundary, exactCount, lastEntry, low, limitedCount, limitedBound}
 use Rattle.sets.proofs.Laws.{members-same, members-gap, members-none, members-fall, below-in, below-out, onward-in, onward-out, falls-at}
 use Rattle.sets.proofs.Filters.{members-drop, drop-edge}
@@ -38,16 +38,26 @@ members-onward S b n h =
     go k true ih = omega arith
     go k false ih = ih
 
+-- from 0 on they are all
+pub onward-all : (S : Set) (n : ℕ) → length (members (onward 0 S) n) ≡ length (members S n)
+unfolding members
+onward-all S n = omega (arith, members-onward S 0 n (omega arith))
+
+-- there are no fewer below a higher number
+pub members-mono : (S : Set) (a b : ℕ) → a ≤ b → length (members S a) ≤ length (members S b)
+members-mono S a b h = omega (arith, members-onward S a b h)
+
 -- ---- the limited count
 
 -- 01's low counts from the last top entry: with a full list that is the boundary, and with fewer no member stands below it.
 module _ (m n : ℕ) (S : Set) (z : 0 < m) where
-  full-last : m ≤ length (members S n) → lastEntry m n S ≡ boundary m n S
+  -- with a full list the last top entry is the boundary, and m members stand at or above it
+  pub full-last : m ≤ length (members S n) → lastEntry m n S ≡ boundary m n S
   full-last f =
       let e : topCount m n S - 1 ≡ m - 1 = omega arith in
       ap (λ (i : ℕ). getD (take m (members S n)) i 0) e ∙ getD-take m (members S n) (m - 1) 0 (omega arith)
 
-  full-rest : length (members S (boundary m n S)) ≡ length (members S n) - m
+  pub full-rest : length (members S (boundary m n S)) ≡ length (members S n) - m
   full-rest = ap length (sym (drop-edge S m n z)) ∙ length-drop m (members S n)
 
   few-last : length (members S n) < m → lastEntry m n S ≡ getD (members S n) (length (members S n) - 1) 0
@@ -140,3 +150,25 @@ module _ (m n : ℕ) (S : Set) (z : 0 < m) where
             go : Dec (length (members S n) < m) → length (members S (lastEntry m n S)) ≡ 0
             go (yes l) = few-rest l
             go (no l) = ap (λ (x : ℕ). length (members S x)) (full-last (omega arith)) ∙ omega (arith, full-rest)
+
+-- ---- sets that agree below n
+
+module _ (m n : ℕ) (S R : Set) (z : 0 < m) (h : Agree n S R) where
+  same-list : members S n ≡ members R n
+  same-list = members-same S R n h
+
+  same-low : (window : ℕ) → low m n window S ≡ low m n window R
+  unfolding low
+  same-low window = ap (λ (l : List ℕ). (getD (take m l) (min m (length l) - 1) 0 + 63) / 64 - window) same-list
+
+  module _ (window : ℕ) (w : 1 ≤ window) where
+    pub limited-same : limitedCount m n window S ≡ limitedCount m n window R
+    limited-same =
+        limited-is m n S z window w
+        ∙ ap (λ (x : ℕ). length (members (onward (64 * x) S) n)) (same-low window)
+        ∙ ap length (members-same (onward (64 * low m n window R) S) (onward (64 * low m n window R) R) n (λ p l. ap (_&&_ (leb (64 * low m n window R) p)) (h p l)))
+        ∙ sym (limited-is m n R z window w)
+
+    pub bound-same : limitedBound m n window S ≡ limitedBound m n window R
+    unfolding limitedBound
+    bound-same = ap₂ (λ (x y : ℕ). cond (leb x m) 0 (64 * y)) limited-same (same-low window)

@@ -14,8 +14,8 @@ use Rattle.sets.specs.Sets.{Agree, Below, Set, below, differ, flip, flip
 use Rattle.sets.specs.Words.{blockAt, digit, flipBit, held}
 use Rattle.sets.specs.Filter.{Holds, bitCells, boundary, topCells}
 use Rattle.sets.proofs.Laws.{flips-odd, odd-append, members-same, members-odd, members-fall, below-in, falls-at}
-use Rattle.sets.proofs.Words.{digit-word, word-same, word-flip, word-flip-other}
-use Rattle.sets.proofs.Lists.{length-tabulate, getD-tabulate, tabulate-same}
+use Rattle.sets.proofs.Words.{digit-word, held-word, word-same, word-flip, word-flip-other}
+use Rattle.sets.proofs.Lists.{length-tabulate, getD-tabulate, tabulate-same, take-tabulate}
 
 -- the members are none, or the largest and those below it
 Shape : Set → ℕ → Type 0
@@ -158,6 +158,13 @@ unfolding held
 blocks-held l k S h p a =
     let e : 64 * (p / 64) + p % 64 ≡ p = omega arith in
     ap (λ (x : ℕ). digit x (p % 64)) (h (p / 64) (omega arith)) ∙ digit-word S (64 * (p / 64)) 64 (p % 64) (omega arith) ∙ ap S e
+
+-- blocks whose set agrees with another are the blocks of that one
+pub held-blocks : (k : ℕ) (blocks : List ℕ) (S : Set) → k ≤ length blocks → ((i : ℕ) → getD blocks i 0 < 2 ^ 64) → Agree (64 * k) (held blocks) S
+    → take k blocks ≡ tabulate k (blockAt S)
+held-blocks k blocks S l f h =
+    take-tabulate k (blockAt S) blocks l
+    (λ i a. sym (held-word blocks i (f i)) ∙ word-same (held blocks) S (64 * i) 64 (λ j b. h (64 * i + j) (omega arith)))
 
 -- and with the digit of p changed its cells are the blocks of the set with p flipped
 pub blocks-flip : (l : List ℕ) (k p : ℕ) (S : Set) → k ≤ length l → p < 64 * k → ((i : ℕ) → i < k → getD l i 0 ≡ blockAt S i)

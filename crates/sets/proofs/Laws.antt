@@ -9,7 +9,7 @@ use native.Mathlib.Omega.{arith}
 use lib.Dec.{ltb, eqb}
 use lib.ListN.{length, getD, take}
 use borrow.Author.Tests.{lt-ltb, le-ltb, le-leb, lt-leb, eq-eqb, ne-eqb}
-use Rattle.sets.specs.Sets.{Agree, Falls, Set, apart, below, differ, flip, flips, members, none, odd, onward}
+use Rattle.sets.specs.Sets.{Agree, Empty, Falls, Set, apart, below, differ, flip, flips, members, none, odd, onward}
 
 -- ---- differ is a sum without carry
 
@@ -125,10 +125,10 @@ members-same S R zero h = refl
 members-same S R (suc n) h = rw (h n (omega arith), members-same S R n (λ p l. h p (omega arith)))
 
 -- with no member from m up to n
-pub members-gap : (S : Set) (m n : ℕ) → m ≤ n → ((p : ℕ) → m ≤ p → p < n → S p ≡ false) → members S n ≡ members S m
+pub members-gap : (S : Set) (m n : ℕ) → m ≤ n → Empty S m n → members S n ≡ members S m
 unfolding members
 members-gap S m n l h =
-    le-ind (λ (k : ℕ). ((p : ℕ) → m ≤ p → p < k → S p ≡ false) → members S k ≡ members S m)
+    le-ind (λ (k : ℕ). Empty S m k → members S k ≡ members S m)
     (λ _. refl)
     (λ k ml ih hk. ap (λ (b : Bool). cond b (k ∷ members S k) (members S k)) (hk k ml (omega arith)) ∙ ih (λ p a b. hk p a (omega arith)))
     n
@@ -144,6 +144,23 @@ pub members-head : (S : Set) (p n : ℕ) → p < n → S p ≡ true → ((q : �
 unfolding members
 members-head S p n l h g =
     members-gap S (suc p) n l g ∙ ap (λ (b : Bool). cond b (p ∷ members S p) (members S p)) h
+
+-- a member counts
+pub member-more : (S : Set) (p : ℕ) → S p ≡ true → length (members S (suc p)) ≡ suc (length (members S p))
+unfolding members
+member-more S p h = rw h
+
+-- each place of the list has a member
+pub member-at : (S : Set) (n i : ℕ) → i < length (members S n) → S (getD (members S n) i 0) ≡ true
+unfolding members
+member-at S zero i h = absurd (omega arith)
+member-at S (suc n) i h = go (λ j l. member-at S n j l) (S n) refl i h
+  where
+    go : ((j : ℕ) → j < length (members S n) → S (getD (members S n) j 0) ≡ true) → (b : Bool) → S n ≡ b → (j : ℕ)
+        → j < length (cond b (n ∷ members S n) (members S n)) → S (getD (cond b (n ∷ members S n) (members S n)) j 0) ≡ true
+    go ih true e zero l = e
+    go ih true e (suc j) l = ih j (omega arith)
+    go ih false e j l = ih j l
 
 pub falls-more : (l : List ℕ) {m n : ℕ} → m ≤ n → Falls m l → Falls n l
 falls-more [] h f = tt
@@ -214,14 +231,14 @@ members-none-back : (S : Set) (n : ℕ) → members S n ≡ [] → (p : ℕ) →
 members-none-back S n e p h = sym (below-in n S p h) ∙ sym (members-odd S n p) ∙ ap (λ (l : List ℕ). odd l p) e
 
 -- no member stands from b on exactly when none is listed
-pub onward-none : (b : ℕ) (S : Set) (n : ℕ) → ((p : ℕ) → b ≤ p → p < n → S p ≡ false) → members (onward b S) n ≡ []
+pub onward-none : (b : ℕ) (S : Set) (n : ℕ) → Empty S b n → members (onward b S) n ≡ []
 onward-none b S n h = members-none (onward b S) n (λ p l. go p l (decLt p b))
   where
     go : (p : ℕ) → p < n → Dec (p < b) → onward b S p ≡ false
     go p l (yes a) = onward-out b S p a
     go p l (no a) = onward-in b S p (omega arith) ∙ h p (omega arith) l
 
-pub onward-none-back : (b : ℕ) (S : Set) (n : ℕ) → members (onward b S) n ≡ [] → (p : ℕ) → b ≤ p → p < n → S p ≡ false
+pub onward-none-back : (b : ℕ) (S : Set) (n : ℕ) → members (onward b S) n ≡ [] → Empty S b n
 onward-none-back b S n e p a l = sym (onward-in b S p a) ∙ members-none-back (onward b S) n e p l
 
 -- a falling list with the same membership is the list of the members

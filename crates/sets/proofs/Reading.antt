@@ -12,7 +12,7 @@ use lib.Dec.{eqb, ltb, leb}
 use lib.ListN.{length, getD, take, drop, length-drop}
 use lib.Seq.{ext-getD, getD-at, split-at, take-length}
 use borrow.Author.Tests.{eq-eqb, lt-ltb, le-leb, eqb-true, ltb-true, leb-true}
-use Rattle.sets.specs.Sets.{Falls, Set, below, members, onward, tabulate}
+use Rattle.sets.specs.Sets.{Empty, Falls, Set, below, members, onward, tabulate}
 use Rattle.sets.specs.Words.{blockAt, held}
 use Rattle.sets.specs.Configurations.{Config, Sound, W, blocksFor, longestRow}
 use Rattle.sets.specs.Row.{bitPart, bytesOf, faultless, numbers, row, rowBlockCount, rowBlocks, rowBoundary, rowEntries, shownRow, spareByte, topBytes}
@@ -34,7 +34,7 @@ pub record Faultless (c : Config) (bs : List ℕ) : Type 0 where
   pub falling : Falls (W c) (rowEntries c bs)
   pub counted : rowBlockCount c bs ≡ blocksFor (rowBoundary c bs)
   pub spare : (rowBoundary c bs ≡ 0 → ⊥) → getD bs (topBytes c) 0 ≡ spareByte (rowBoundary c bs)
-  pub clear : (p : ℕ) → rowBoundary c bs ≤ p → p < 64 * rowBlockCount c bs → held (rowBlocks c bs) p ≡ false
+  pub clear : Empty (held (rowBlocks c bs)) (rowBoundary c bs) (64 * rowBlockCount c bs)
 
 sound-cond : (b : Bool) (n : ℕ) → sound (cond b nowhere (place n)) ≡ b
 sound-cond true n = refl

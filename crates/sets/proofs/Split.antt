@@ -1,13 +1,13 @@
 -- A set split at its m largest members: the list of these, and what stands below the edge. Assumes nothing.
 use mathlib.Core.Path.{_≡_, sym, ap, _∙_}
-use mathlib.Core.Bool.{Bool, false, _||_}
+use mathlib.Core.Bool.{Bool, _||_}
 use mathlib.Core.List.{List, _++_, append-nil}
 use Prim.Native.Nat.{ℕ, _-_, _≤_, _<_}
 use native.Mathlib.Decide.{decLt}
 use native.Mathlib.Omega.{arith}
 use lib.ListN.{length, getD, take, drop, length-take, take-append-drop, List·getD-eq-default}
 use lib.Seq.{getD-take, take-all, take-at}
-use Rattle.sets.specs.Sets.{Falls, Set, among, below, members}
+use Rattle.sets.specs.Sets.{Empty, Falls, Set, among, below, members}
 use Rattle.sets.specs.Filter.{boundary, joined}
 use Rattle.sets.proofs.Laws.{members-fall, members-unique, falls-take, falls-room, falls-order, falls-append, below-in, below-out, below-same}
 use Rattle.sets.proofs.Filters.{drop-edge}
@@ -78,7 +78,7 @@ module _ {m n : ℕ} {xs : List ℕ} {edge : ℕ} (z : 0 < m) (C : Split m n xs 
       ∙ ap (λ (l : List ℕ). getD l (m - 1) 0) (joined-top R)
       ∙ sym (C .edgeIs)
 
-  pub joined-bit : (R : Set) (b : ℕ) → ((p : ℕ) → edge ≤ p → p < b → R p ≡ false) → (p : ℕ) → p < b → R p ≡ below edge (joined xs edge R) p
+  pub joined-bit : (R : Set) (b : ℕ) → Empty R edge b → (p : ℕ) → p < b → R p ≡ below edge (joined xs edge R) p
   joined-bit R b clear p h = go (decLt p edge)
     where
       go : Dec (p < edge) → R p ≡ below edge (joined xs edge R) p

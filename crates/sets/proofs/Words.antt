@@ -1,17 +1,17 @@
 -- The laws of words: numbers whose binary digits tell the members of a set in a block. Assumes nothing.
 use mathlib.Core.Path.{_≡_, refl, sym, ap, ap₂, _∙_, subst, fun-ext}
-use mathlib.Core.Bool.{Bool, true, false, true≢false, cond, _&&_}
+use mathlib.Core.Bool.{Bool, true, false, true≢false, cond, _&&_, _||_}
 use mathlib.Core.List.{List, [], _∷_, _++_}
-use Prim.Native.Nat.{ℕ, zero, suc, _+_, _-_, _*_, _/_, _%_, _^_, _≤_, _<_, min}
-use native.Mathlib.Nat.{pow-suc, add-comm, div-eq-of-lt, div-eq-of-lt-le, mod-eq-of-lt, mod-self, mul-add-mod-self-right, lt-of-lt-of-le}
+use Prim.Native.Nat.{ℕ, zero, suc, _+_, _-_, _*_, _/_, _%_, _^_, _≤_, _<_, max, min}
+use native.Mathlib.Nat.{pow-suc, add-comm, div-eq-of-lt, div-eq-of-lt-le, mod-eq-of-lt, mod-self, mul-add-mod-self-right, mul-mod-left, lt-of-lt-of-le}
 use native.Mathlib.Decide.{decLt, ℕ-discrete}
 use native.Mathlib.Numerals.{add-one}
 use native.Mathlib.Omega.{arith}
 use lib.Dec.{eqb}
 use lib.ListN.{length, getD, set, drop, length-set}
 use lib.Seq.{getD-set-same, getD-set-other, drop-set-lt}
-use lib.Pow.{pow-pos, pow-mono, pow-lt, high, low, field, mod-mod-pow, shr-shr, shr-lt}
-use lib.Bits.{bitAnd, bitXor, and-shr, and-step, and-lt, xor-shr, xor-step, xor-lt}
+use lib.Pow.{pow-pos, pow-mono, pow-lt, high, low, field, mod-mod-pow, shl-shr, shr-shr, shr-lt}
+use lib.Bits.{bitAnd, bitOr, bitXor, and-shr, and-step, and-lt, or-shr, or-step, xor-shr, xor-step, xor-lt}
 use lib.Count.{ones, onesIn, ones-cat, leadingZeros, leading-top}
 use borrow.Author.Tests.{eq-eqb, ne-eqb}
 use Rattle.sets.specs.Sets.{Below, Set, apart, differ, flip, flips, members}
@@ -105,7 +105,7 @@ digits-same (suc n) a b ha hb h =
     (λ j l. digit-shift a 1 j ∙ h (1 + j) (omega arith) ∙ sym (digit-shift b 1 j)) in
     omega (arith, low-eq a b (h 0 (omega arith)))
 
--- ---- exclusive or
+-- ---- exclusive or, and, or
 
 differ-digit : (x y : ℕ) → x < 2 → y < 2 → eqb (lib.Bits.differ x y) 1 ≡ differ (eqb x 1) (eqb y 1)
 differ-digit zero zero hx hy = refl
@@ -156,6 +156,28 @@ digit-and a b j =
     ap (λ (x : ℕ). eqb (x % 2) 1) (and-shr a b j)
     ∙ ap (λ (x : ℕ). eqb x 1) (and-low (a / 2 ^ j) (b / 2 ^ j))
     ∙ min-digit (a / 2 ^ j % 2) (b / 2 ^ j % 2) (omega arith) (omega arith)
+
+max-digit : (x y : ℕ) → x < 2 → y < 2 → eqb (max x y) 1 ≡ (eqb x 1 || eqb y 1)
+max-digit zero zero hx hy = refl
+max-digit zero (suc zero) hx hy = refl
+max-digit zero (suc (suc y)) hx hy = absurd (omega arith)
+max-digit (suc zero) zero hx hy = refl
+max-digit (suc zero) (suc zero) hx hy = refl
+max-digit (suc zero) (suc (suc y)) hx hy = absurd (omega arith)
+max-digit (suc (suc x)) y hx hy = absurd (omega arith)
+
+or-low : (a b : ℕ) → bitOr a b % 2 ≡ max (a % 2) (b % 2)
+or-low a b =
+    ap (λ (x : ℕ). x % 2) (or-step a b)
+    ∙ mul-add-mod-self-right (bitOr (a / 2) (b / 2)) 2 (max (a % 2) (b % 2))
+    ∙ mod-eq-of-lt (omega arith)
+
+pub digit-or : (a b j : ℕ) → digit (bitOr a b) j ≡ (digit a j || digit b j)
+unfolding digit
+digit-or a b j =
+    ap (λ (x : ℕ). eqb (x % 2) 1) (or-shr a b j)
+    ∙ ap (λ (x : ℕ). eqb x 1) (or-low (a / 2 ^ j) (b / 2 ^ j))
+    ∙ max-digit (a / 2 ^ j % 2) (b / 2 ^ j % 2) (omega arith) (omega arith)
 
 -- the one digit of a power of two
 pub digit-pow : (i j : ℕ) → digit (2 ^ i) j ≡ eqb j i
@@ -245,6 +267,22 @@ pub shl-one : (j : ℕ) → j < 64 → 1 * 2 ^ j % 2 ^ 64 ≡ 2 ^ j
 shl-one j h =
     let e : 1 * 2 ^ j ≡ 2 ^ j = omega arith in
     ap (λ (x : ℕ). x % 2 ^ 64) e ∙ mod-eq-of-lt (pow-lt {i = j} {j = 64} h)
+
+-- a shift left, cut at 64 digits
+pub digit-shl : (a k j : ℕ) → k ≤ j → j < 64 → digit (a * 2 ^ k % 2 ^ 64) j ≡ digit a (j - k)
+digit-shl a k j l h =
+    let e : j ≡ k + (j - k) = omega arith in
+    digit-low (a * 2 ^ k) 64 j h
+    ∙ ap (digit (a * 2 ^ k)) e
+    ∙ sym (digit-shift (a * 2 ^ k) k (j - k))
+    ∙ ap (λ (x : ℕ). digit x (j - k)) (shl-shr a k)
+
+pub digit-shl-clear : (a k j : ℕ) → j < k → j < 64 → digit (a * 2 ^ k % 2 ^ 64) j ≡ false
+digit-shl-clear a k j l h =
+    digit-low (a * 2 ^ k) 64 j h
+    ∙ sym (digit-low (a * 2 ^ k) k j l)
+    ∙ ap (λ (x : ℕ). digit x j) (mul-mod-left a (2 ^ k))
+    ∙ digit-zero j
 
 -- a block of 0 holds nothing
 pub held-zero : (l : List ℕ) (i q : ℕ) → getD l i 0 ≡ 0 → q / 64 ≡ i → held l q ≡ false

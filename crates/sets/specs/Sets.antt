@@ -2,7 +2,7 @@
 use mathlib.Core.Path.{_≡_}
 use mathlib.Core.Bool.{Bool, true, false, cond, _&&_, _||_}
 use mathlib.Core.List.{List, [], _∷_}
-use Prim.Native.Nat.{ℕ, zero, suc, _<_}
+use Prim.Native.Nat.{ℕ, zero, suc, _≤_, _<_}
 use lib.Dec.{ltb, leb, eqb}
 use lib.ListN.{length, getD}
 
@@ -41,6 +41,10 @@ onward b S p = leb b p && S p
 -- the same set of the buckets below n
 abbrev pub Agree : ℕ → Set → Set → Type 0
 Agree n S T = (p : ℕ) → p < n → S p ≡ T p
+
+-- no member from a up to b
+abbrev pub Empty : Set → ℕ → ℕ → Type 0
+Empty S a b = (p : ℕ) → a ≤ p → p < b → S p ≡ false
 
 -- the members of S below n, from the largest down
 unfoldable pub members : Set → ℕ → List ℕ
