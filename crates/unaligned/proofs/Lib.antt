@@ -1,0 +1,2 @@
+pub mod Little
+pub mod Runs

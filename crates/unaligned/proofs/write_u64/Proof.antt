@@ -1,0 +1,47 @@
+-- `unaligned::write_u64` meets its contract: two halves, the lower first. Assumes nothing.
+use mathlib.Core.Path.{ap, _∙_}
+use mathlib.Core.List.{List}
+use Prim.Native.Nat.{ℕ, _+_, _*_, _/_, _^_}
+use lib.Seq.{sets}
+use borrow.Author.Needs.{needs}
+use Rattle.sets.specs.Row.{bytes}
+use Rattle.unaligned.proofs.Little.{sets-split}
+use Rattle.unaligned.proofs.write_u64.Statement.{statement}
+use Rattle.unaligned.proofs.write_u64.Tie as tie
+
+cast-write-u32 : tie.Need-cast-write-u32
+cast-write-u32 c = search needs
+
+write-u32-requires : tie.Need-write-u32-requires
+write-u32-requires c κs = search needs
+
+add-write-u32 : tie.Need-add-write-u32
+add-write-u32 c = search needs
+
+cast-write-u32-2 : tie.Need-cast-write-u32-2
+cast-write-u32-2 c = search needs
+
+write-u32-requires-2 : tie.Need-write-u32-requires-2
+write-u32-requires-2 c κs = search needs
+
+same-length : tie.Need-same-length
+same-length c = search needs
+
+returns : tie.Need-returns
+returns c =
+    let s = c .before .before .before .before .before .before .before .before .before in
+    c .before .before .write-u322 .ensures
+    ∙ ap (λ (l : List ℕ). sets l (s .args .at + 4) (bytes 4 (s .args .v / 2 ^ (8 * 4)))) (c .before .before .before .before .before .before .write-u32 .ensures)
+    ∙ sets-split 4 4 (s .args .v) (s .args .at) (s .args .to .now)
+
+pub write-u64-spec : {M : Type 1} → statement M
+write-u64-spec =
+    tie.close
+    (tie.spec
+    cast-write-u32
+    write-u32-requires
+    add-write-u32
+    cast-write-u32-2
+    write-u32-requires-2
+    same-length
+    returns)
