@@ -1,0 +1,10 @@
+pub mod Areas
+pub mod BitPart
+pub mod Counting
+pub mod Filling
+pub mod Gathering
+pub mod Flipping
+pub mod Lifting
+pub mod Resizing
+pub mod Reverse
+pub mod Search

@@ -1,0 +1,58 @@
+-- `bitvec::count_ones` meets its contract: the blocks from a up to i are counted. Assumes nothing.
+use Prim.Native.Nat.{_-_}
+use native.Mathlib.Omega.{arith}
+use Rattle.bitvec.proofs.Counting.{Counting, count-start, count-turn, count-end}
+use borrow.Author.Needs.{needs}
+use Rattle.bitvec.proofs.count_ones.Statement.{statement}
+use Rattle.bitvec.proofs.count_ones.Tie as tie
+
+abbrev Inv-loop : tie.InvT-loop
+Inv-loop blocks a b total₀ i₀ total i = Counting blocks a b total i
+
+abbrev μ-loop : tie.MeasureT-loop
+μ-loop blocks a b total₀ i₀ total i = b - i
+
+loop-holds : tie.Need-loop-holds Inv-loop μ-loop
+loop-holds c = count-start _ _ _ (omega arith)
+
+mul-ones-of : tie.Need-mul-ones-of Inv-loop μ-loop
+mul-ones-of c = omega arith
+
+shared-slice-read-ones-of : tie.Need-shared-slice-read-ones-of Inv-loop μ-loop
+shared-slice-read-ones-of c = omega arith
+
+ones-of-requires : tie.Need-ones-of-requires Inv-loop μ-loop
+ones-of-requires c κs = search needs
+
+add-i : tie.Need-add-i Inv-loop μ-loop
+add-i c = omega arith
+
+loop-less : tie.Need-loop-less Inv-loop μ-loop
+loop-less c = omega arith
+
+loop-again : tie.Need-loop-again Inv-loop μ-loop
+loop-again c =
+    let k = c .before .before .before in
+    count-turn (c .ones-of .result) (omega arith) (c .before .shared-slice-known2 .given (k .loop .i) .fits) (c .ones-of .ensures) (k .loop .inv)
+
+add-total : tie.Need-add-total Inv-loop μ-loop
+add-total c = omega (arith, loop-again c .few)
+
+returns : tie.Need-returns Inv-loop μ-loop
+returns c = count-end (c .loop-test .left) (c .before .loop .inv)
+
+pub count-ones-spec : {M : Type 1} → statement M
+count-ones-spec =
+    tie.close
+    (tie.spec
+    Inv-loop
+    μ-loop
+    loop-holds
+    mul-ones-of
+    shared-slice-read-ones-of
+    ones-of-requires
+    add-total
+    add-i
+    loop-less
+    loop-again
+    returns)

@@ -1,0 +1,71 @@
+-- `bitvec::count_ones_in_bytes` meets its contract: the blocks below i are counted. Assumes nothing.
+use mathlib.Core.Path.{_≡_, ap, subst, _∙_}
+use Prim.Native.Nat.{ℕ, _+_, _-_, _*_, _^_, _<_}
+use native.Mathlib.Omega.{arith}
+use lib.Count.{ones}
+use lib.ListN.{drop, getD}
+use denote.Ref.{now}
+use Rattle.sets.specs.Row.{numbers}
+use Rattle.unaligned.proofs.Runs.{number-read}
+use Rattle.bitvec.proofs.Counting.{Counting, count-start, count-turn, count-all}
+use borrow.Author.Needs.{needs}
+use Rattle.bitvec.proofs.count_ones_in_bytes.Statement.{statement}
+use Rattle.bitvec.proofs.count_ones_in_bytes.Tie as tie
+
+abbrev Inv-loop : tie.InvT-loop
+Inv-loop from at n total₀ i₀ total i = Counting (numbers 8 n (drop at from)) 0 n total i
+
+abbrev μ-loop : tie.MeasureT-loop
+μ-loop from at n total₀ i₀ total i = n - i
+
+loop-holds : tie.Need-loop-holds Inv-loop μ-loop
+loop-holds c = count-start _ _ _ (omega arith)
+
+mul-read-u64 : tie.Need-mul-read-u64 Inv-loop μ-loop
+mul-read-u64 c = omega arith
+
+add-read-u64 : tie.Need-add-read-u64 Inv-loop μ-loop
+add-read-u64 c = omega arith
+
+read-u64-requires : tie.Need-read-u64-requires Inv-loop μ-loop
+read-u64-requires c κs = omega arith
+
+ones-of-requires : tie.Need-ones-of-requires Inv-loop μ-loop
+ones-of-requires c κs = search needs
+
+add-i : tie.Need-add-i Inv-loop μ-loop
+add-i c = omega arith
+
+loop-less : tie.Need-loop-less Inv-loop μ-loop
+loop-less c = omega arith
+
+loop-again : tie.Need-loop-again Inv-loop μ-loop
+loop-again c =
+    let k = c .before .before .before in
+    let s = k .before .before in
+    let e : c .before .read-u64 .result ≡ getD (numbers 8 (s .args .n) (drop (s .args .at) (now (s .args .from)))) (k .loop .i) 0 =
+    number-read 8 (s .args .n) (s .args .at) (now (s .args .from)) (s .args .at + 8 * k .loop .i) (omega arith) (omega arith) (c .before .read-u64 .ensures) in
+    count-turn (c .ones-of .result) (omega arith) (subst (λ (x : ℕ). x < 2 ^ 64) e (omega arith)) (c .ones-of .ensures ∙ ap ones e) (k .loop .inv)
+
+add-total : tie.Need-add-total Inv-loop μ-loop
+add-total c = omega (arith, loop-again c .few)
+
+returns : tie.Need-returns Inv-loop μ-loop
+returns c = count-all (c .loop-test .left) (c .before .loop .inv)
+
+pub count-ones-in-bytes-spec : {M : Type 1} → statement M
+count-ones-in-bytes-spec =
+    tie.close
+    (tie.spec
+    Inv-loop
+    μ-loop
+    loop-holds
+    mul-read-u64
+    add-read-u64
+    read-u64-requires
+    ones-of-requires
+    add-total
+    add-i
+    loop-less
+    loop-again
+    returns)

@@ -1,0 +1,15 @@
+-- `bitvec::ones_of` meets its contract. Assumes nothing.
+use native.Mathlib.Omega.{arith}
+use lib.Count.{ones-le}
+use borrow.Author.Needs.{needs}
+use Rattle.bitvec.proofs.ones_of.Statement.{statement}
+use Rattle.bitvec.proofs.ones_of.Tie as tie
+
+cast-result : tie.Need-cast-result
+cast-result c = omega (arith, ones-le 64 (c .args .block) (c .fits .block .fits))
+
+returns : tie.Need-returns
+returns c = search needs
+
+pub ones-of-spec : {M : Type 1} → statement M
+ones-of-spec = tie.close (tie.spec cast-result returns)

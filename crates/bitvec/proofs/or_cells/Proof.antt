@@ -1,0 +1,47 @@
+-- `bitvec::or_cells` meets its contract: those from a up to i are joined. Assumes nothing.
+use Prim.Native.Nat.{_-_}
+use native.Mathlib.Omega.{arith}
+use Rattle.bitvec.proofs.Gathering.{Gathering, join-start, join-turn, join-end}
+use Rattle.bitvec.proofs.or_cells.Statement.{statement}
+use Rattle.bitvec.proofs.or_cells.Tie as tie
+
+abbrev Inv-loop : tie.InvT-loop
+Inv-loop top a b all₀ i₀ all i = Gathering a b top all i
+
+abbrev μ-loop : tie.MeasureT-loop
+μ-loop top a b all₀ i₀ all i = b - i
+
+loop-holds : tie.Need-loop-holds Inv-loop μ-loop
+loop-holds c = join-start _ _ _ (c .pre .0)
+
+mul-all : tie.Need-mul-all Inv-loop μ-loop
+mul-all c = omega arith
+
+shared-slice-read-all : tie.Need-shared-slice-read-all Inv-loop μ-loop
+shared-slice-read-all c = omega arith
+
+add-i : tie.Need-add-i Inv-loop μ-loop
+add-i c = omega arith
+
+loop-less : tie.Need-loop-less Inv-loop μ-loop
+loop-less c = omega arith
+
+loop-again : tie.Need-loop-again Inv-loop μ-loop
+loop-again c = join-turn (c .before .loop-test .taken) (c .before .before .loop .inv)
+
+returns : tie.Need-returns Inv-loop μ-loop
+returns c = join-end (c .loop-test .left) (c .before .loop .inv)
+
+pub or-cells-spec : {M : Type 1} → statement M
+or-cells-spec =
+    tie.close
+    (tie.spec
+    Inv-loop
+    μ-loop
+    loop-holds
+    mul-all
+    shared-slice-read-all
+    add-i
+    loop-less
+    loop-again
+    returns)

@@ -1,0 +1,66 @@
+-- `bitvec::toggle_all` meets its contract: the first i buckets listed are flipped. Assumes nothing.
+use Prim.Native.Nat.{_-_}
+use native.Mathlib.Omega.{arith}
+use Rattle.bitvec.proofs.Flipping.{Flipping, flip-start, flip-turn, flip-fits, flip-end}
+use borrow.Author.Needs.{needs}
+use Rattle.bitvec.proofs.toggle_all.Statement.{statement}
+use Rattle.bitvec.proofs.toggle_all.Tie as tie
+
+abbrev Inv-loop : tie.InvT-loop
+Inv-loop blocks₀ list n i₀ blocks i = Flipping n list blocks₀ blocks i
+
+abbrev μ-loop : tie.MeasureT-loop
+μ-loop blocks₀ list n i₀ blocks i = n - i
+
+loop-holds : tie.Need-loop-holds Inv-loop μ-loop
+loop-holds c = flip-start _ _ _
+
+mul-into-usize : tie.Need-mul-into-usize Inv-loop μ-loop
+mul-into-usize c = omega arith
+
+shared-slice-read-into-usize : tie.Need-shared-slice-read-into-usize Inv-loop μ-loop
+shared-slice-read-into-usize c = omega arith
+
+into-usize-requires : tie.Need-into-usize-requires Inv-loop μ-loop
+into-usize-requires c κs = search needs
+
+toggle-requires : tie.Need-toggle-requires Inv-loop μ-loop
+toggle-requires c κs =
+    let k = c .before .before .before .before in
+    let s = k .before .before .before in
+    flip-fits (k .loop .inv) (c .into-usize .result) (omega arith) (s .pre .0) (c .into-usize .ensures) (s .pre .1)
+
+add-i : tie.Need-add-i Inv-loop μ-loop
+add-i c = omega arith
+
+loop-less : tie.Need-loop-less Inv-loop μ-loop
+loop-less c = omega arith
+
+loop-again : tie.Need-loop-again Inv-loop μ-loop
+loop-again c =
+    let u = c .before .before .before in
+    let k = u .before .before .before .before in
+    flip-turn (k .loop .inv) (u .into-usize .result) (omega arith) (k .before .before .before .pre .0) (u .into-usize .ensures) _ (c .before .before .toggle .ensures)
+
+same-length : tie.Need-same-length Inv-loop μ-loop
+same-length c = omega arith
+
+returns : tie.Need-returns Inv-loop μ-loop
+returns c = flip-end (c .before .loop .inv) (c .loop-test .left)
+
+pub toggle-all-spec : {M : Type 1} → statement M
+toggle-all-spec =
+    tie.close
+    (tie.spec
+    Inv-loop
+    μ-loop
+    loop-holds
+    mul-into-usize
+    shared-slice-read-into-usize
+    into-usize-requires
+    toggle-requires
+    add-i
+    loop-less
+    loop-again
+    same-length
+    returns)

@@ -1,0 +1,66 @@
+-- `bitvec::write_blocks` meets its contract: i blocks are written. Assumes nothing.
+use Prim.Native.Nat.{_+_, _-_, _*_}
+use native.Mathlib.Omega.{arith}
+use Rattle.unaligned.proofs.Runs.{Written, written-start, written-turn, written-end}
+use Rattle.bitvec.proofs.write_blocks.Statement.{statement}
+use Rattle.bitvec.proofs.write_blocks.Tie as tie
+
+abbrev Inv-loop : tie.InvT-loop
+Inv-loop to₀ at blocks n i₀ to i = Written 8 blocks n to₀ at to i
+
+abbrev μ-loop : tie.MeasureT-loop
+μ-loop to₀ at blocks n i₀ to i = n - i
+
+loop-holds : tie.Need-loop-holds Inv-loop μ-loop
+loop-holds c = written-start _ _ _ _ _
+
+mul-write-u64 : tie.Need-mul-write-u64 Inv-loop μ-loop
+mul-write-u64 c = omega arith
+
+add-write-u64 : tie.Need-add-write-u64 Inv-loop μ-loop
+add-write-u64 c = omega arith
+
+mul-write-u64-2 : tie.Need-mul-write-u64-2 Inv-loop μ-loop
+mul-write-u64-2 c = omega arith
+
+shared-slice-read-write-u64 : tie.Need-shared-slice-read-write-u64 Inv-loop μ-loop
+shared-slice-read-write-u64 c = omega arith
+
+write-u64-requires : tie.Need-write-u64-requires Inv-loop μ-loop
+write-u64-requires c κs = omega arith
+
+add-i : tie.Need-add-i Inv-loop μ-loop
+add-i c = omega arith
+
+loop-less : tie.Need-loop-less Inv-loop μ-loop
+loop-less c = omega arith
+
+loop-again : tie.Need-loop-again Inv-loop μ-loop
+loop-again c =
+    let k = c .before .before .before .before .before .before in
+    let s = k .before .before .before in
+    written-turn _ (s .args .at + 8 * k .loop .i) (s .pre .0) (omega arith) (omega arith) (c .before .before .write-u64 .ensures) (k .loop .inv)
+
+same-length : tie.Need-same-length Inv-loop μ-loop
+same-length c = omega arith
+
+returns : tie.Need-returns Inv-loop μ-loop
+returns c = written-end (c .loop-test .left) (c .before .loop .inv)
+
+pub write-blocks-spec : {M : Type 1} → statement M
+write-blocks-spec =
+    tie.close
+    (tie.spec
+    Inv-loop
+    μ-loop
+    loop-holds
+    mul-write-u64
+    add-write-u64
+    mul-write-u64-2
+    shared-slice-read-write-u64
+    write-u64-requires
+    add-i
+    loop-less
+    loop-again
+    same-length
+    returns)

@@ -1,0 +1,51 @@
+-- `bitvec::zero_blocks` meets its contract: the cells from a up to i are zeros. Assumes nothing.
+use Prim.Native.Nat.{_-_}
+use native.Mathlib.Omega.{arith}
+use Rattle.bitvec.proofs.Filling.{Filling, zeros, zero-start, zero-turn, zero-end}
+use Rattle.bitvec.proofs.zero_blocks.Statement.{statement}
+use Rattle.bitvec.proofs.zero_blocks.Tie as tie
+
+abbrev Inv-loop : tie.InvT-loop
+Inv-loop blocks₀ a b i₀ blocks i = Filling (zeros a blocks₀) b blocks₀ blocks i
+
+abbrev μ-loop : tie.MeasureT-loop
+μ-loop blocks₀ a b i₀ blocks i = b - i
+
+loop-holds : tie.Need-loop-holds Inv-loop μ-loop
+loop-holds c = zero-start _ _ _ (c .pre .0) (c .pre .1)
+
+mul-blocks : tie.Need-mul-blocks Inv-loop μ-loop
+mul-blocks c = omega arith
+
+slice-write-blocks : tie.Need-slice-write-blocks Inv-loop μ-loop
+slice-write-blocks c = omega arith
+
+add-i : tie.Need-add-i Inv-loop μ-loop
+add-i c = omega arith
+
+loop-less : tie.Need-loop-less Inv-loop μ-loop
+loop-less c = omega arith
+
+loop-again : tie.Need-loop-again Inv-loop μ-loop
+loop-again c = zero-turn (c .before .before .pre .0) (c .before .before .pre .1) (c .loop-test .taken) (c .before .loop .inv)
+
+same-length : tie.Need-same-length Inv-loop μ-loop
+same-length c = omega arith
+
+returns : tie.Need-returns Inv-loop μ-loop
+returns c = zero-end _ (c .loop-test .left) (c .before .loop .inv)
+
+pub zero-blocks-spec : {M : Type 1} → statement M
+zero-blocks-spec =
+    tie.close
+    (tie.spec
+    Inv-loop
+    μ-loop
+    loop-holds
+    mul-blocks
+    slice-write-blocks
+    add-i
+    loop-less
+    loop-again
+    same-length
+    returns)

@@ -1,0 +1,3 @@
+pub mod Cells
+pub mod Highest
+pub mod Parts
