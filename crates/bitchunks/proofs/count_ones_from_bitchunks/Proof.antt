@@ -1,0 +1,64 @@
+-- `bitchunks::count_ones_from_bitchunks` meets its contract: the members met first and those in the window's other blocks are the limited count's. Assumes nothing.
+use mathlib.Core.Path.{subst}
+use native.Mathlib.Omega.{arith}
+use Rattle.bitchunks.specs.Counts.{FirstOf}
+use Rattle.bitchunks.proofs.Totals.{all-few, full-limited, few-limited}
+use borrow.Author.Needs.{needs}
+use Rattle.bitchunks.proofs.count_ones_from_bitchunks.Statement.{statement}
+use Rattle.bitchunks.proofs.count_ones_from_bitchunks.Tie as tie
+
+first-xor-ones-requires : tie.Need-first-xor-ones-requires
+first-xor-ones-requires c κs =
+    let p = c .before .before .before .before .pre in
+    (p .0, (p .1 .0, p .1 .1 .0))
+
+enum-known-total : tie.Need-enum-known-total
+enum-known-total c = search needs
+
+lsb-index-lower-bound-requires : tie.Need-lsb-index-lower-bound-requires
+lsb-index-lower-bound-requires c κs = search needs
+
+count-xor-ones-requires : tie.Need-count-xor-ones-requires
+count-xor-ones-requires c κs =
+    let p = c .before .before .before .before .before .before .before .before .before .pre in
+    let f = subst (FirstOf _ _ _ _ _ _) (c .before .before .total .given .1) (c .before .before .before .before .first-xor-ones .ensures) in
+    ((p .0 .0, p .0 .1, f .ahead), (p .1 .0 .0, p .1 .0 .1, f .otherAhead))
+
+add-all : tie.Need-add-all
+add-all c =
+    let p = c .before .before .before .before .before .before .before .before .before .before .pre in
+    let f = subst (FirstOf _ _ _ _ _ _) (c .before .before .before .total .given .1) (c .before .before .before .before .before .first-xor-ones .ensures) in
+    omega (arith, all-few f _ (p .1 .1 .0) (p .1 .1 .1) _ _ (c .before .lsb-index-lower-bound .ensures) (c .count-xor-ones .ensures), p .0 .2 .small)
+
+bound-of-requires : tie.Need-bound-of-requires
+bound-of-requires c κs =
+    let f = subst (FirstOf _ _ _ _ _ _) (c .before .before .before .total .given .1) (c .before .before .before .before .before .first-xor-ones .ensures) in
+    omega (arith, f .near, f .under, c .before .lsb-index-lower-bound .ensures, c .before .before .before .before .before .before .before .before .before .before .pre .0 .2 .small)
+
+enum-known-total-2 : tie.Need-enum-known-total-2
+enum-known-total-2 c = search needs
+
+returns : tie.Need-returns
+returns c =
+    let p = c .before .before .before .before .before .before .before .before .before .before .before .pre in
+    let f = subst (FirstOf _ _ _ _ _ _) (c .before .before .before .before .total .given .1) (c .before .before .before .before .before .before .first-xor-ones .ensures) in
+    full-limited f _ (p .1 .1 .0) (p .1 .1 .1) _ _ (c .before .before .lsb-index-lower-bound .ensures) (c .before .count-xor-ones .ensures) _ (c .bound-of .ensures)
+
+returns-2 : tie.Need-returns-2
+returns-2 c =
+    let p = c .before .before .before .before .before .before .before .before .pre in
+    few-limited (p .1 .1 .0) (p .1 .1 .1) (subst (FirstOf _ _ _ _ _ _) (c .before .total2 .given .1) (c .before .before .before .first-xor-ones .ensures))
+
+pub count-ones-from-bitchunks-spec : {M : Type 1} → statement M
+count-ones-from-bitchunks-spec =
+    tie.close
+    (tie.spec
+    first-xor-ones-requires
+    enum-known-total
+    lsb-index-lower-bound-requires
+    count-xor-ones-requires
+    add-all
+    bound-of-requires
+    enum-known-total-2
+    returns
+    returns-2)

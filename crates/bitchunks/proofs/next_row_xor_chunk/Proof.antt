@@ -1,0 +1,54 @@
+-- `bitchunks::next_row_xor_chunk` meets its contract: the laws of two walks' step at two rows. Assumes nothing.
+use borrow.Author.Needs.{needs}
+use Rattle.bitchunks.proofs.Walk.{cross-none, cross-ahead, cross-other, cross-chunk}
+use Rattle.bitchunks.proofs.next_row_xor_chunk.Statement.{statement}
+use Rattle.bitchunks.proofs.next_row_xor_chunk.Tie as tie
+
+row-reach-requires : tie.Need-row-reach-requires
+row-reach-requires c κs = search needs
+
+row-reach-requires-2 : tie.Need-row-reach-requires-2
+row-reach-requires-2 c κs = search needs
+
+most-requires : tie.Need-most-requires
+most-requires c κs = search needs
+
+returns : tie.Need-returns
+returns c =
+    let k = c .before in
+    let s = k .before .before .before .before .before in
+    cross-none (s .pre .0 .1) (s .pre .1 .1) (k .before .before .row-reach .ensures) (k .before .row-reach2 .ensures) _ (k .most .ensures) (c .if1 .taken)
+
+sub-i : tie.Need-sub-i
+sub-i c = search needs
+
+row-merge-requires : tie.Need-row-merge-requires
+row-merge-requires c κs =
+    let k = c .before in
+    let s = k .before .before .before .before .before in
+    (s .pre .0 .0, cross-ahead (s .pre .0 .1) (s .pre .1 .1) (k .before .before .row-reach .ensures) (k .before .row-reach2 .ensures) _ (k .most .ensures) (c .if1 .left))
+
+row-merge-requires-2 : tie.Need-row-merge-requires-2
+row-merge-requires-2 c κs =
+    let k = c .before .before in
+    let s = k .before .before .before .before .before in
+    (s .pre .1 .0, cross-other (s .pre .0 .1) (s .pre .1 .1) (k .before .before .row-reach .ensures) (k .before .row-reach2 .ensures) _ (k .most .ensures) (c .before .if1 .left))
+
+returns-2 : tie.Need-returns-2
+returns-2 c =
+    let k = c .before .before .before .before .before in
+    let s = k .before .before .before .before .before in
+    cross-chunk (s .pre .0 .1) (s .pre .1 .1) (k .before .before .row-reach .ensures) (k .before .row-reach2 .ensures) _ (k .most .ensures) (c .before .before .before .before .if1 .left) (c .before .before .before .row-merge .ensures) (c .before .before .row-merge2 .ensures)
+
+pub next-row-xor-chunk-spec : {M : Type 1} → statement M
+next-row-xor-chunk-spec =
+    tie.close
+    (tie.spec
+    row-reach-requires
+    row-reach-requires-2
+    most-requires
+    returns
+    sub-i
+    row-merge-requires
+    row-merge-requires-2
+    returns-2)

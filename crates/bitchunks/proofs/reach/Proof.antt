@@ -1,0 +1,52 @@
+-- `bitchunks::reach` meets its contract: the blocks and the next entry bound what is left. Assumes nothing.
+use borrow.Author.Needs.{needs}
+use Rattle.bitchunks.proofs.Walk.{cell-count, cell-entry, reach-end, reach-entry}
+use Rattle.bitchunks.proofs.reach.Statement.{statement}
+use Rattle.bitchunks.proofs.reach.Tie as tie
+
+bits-end-requires : tie.Need-bits-end-requires
+bits-end-requires c κs = search needs
+
+mul-into-usize : tie.Need-mul-into-usize
+mul-into-usize c = search needs
+
+shared-slice-read-into-usize : tie.Need-shared-slice-read-into-usize
+shared-slice-read-into-usize c = search needs
+
+into-usize-requires : tie.Need-into-usize-requires
+into-usize-requires c κs = search needs
+
+into-index-requires : tie.Need-into-index-requires
+into-index-requires c κs = search needs
+
+add-most : tie.Need-add-most
+add-most c = search needs
+
+most-requires : tie.Need-most-requires
+most-requires c κs = search needs
+
+returns : tie.Need-returns
+returns c bits e =
+    let s = c .before .before .before .before .before .before .before in
+    let l = c .before .before .before .before .if1 .taken in
+    reach-entry (s .pre .2) (c .before .before .before .before .before .bits-end .ensures) bits e _ _ _ (cell-count _ _ (s .pre .0)) l
+    (cell-entry _ _ (s .pre .0) _ _ l (c .before .before .into-usize .ensures)) (c .before .into-index .ensures) (c .most .ensures)
+
+returns-2 : tie.Need-returns-2
+returns-2 c bits e =
+    let s = c .before .before .before in
+    reach-end (s .pre .2) (c .before .bits-end .ensures) bits e (cell-count _ _ (s .pre .0)) (c .if1 .left)
+
+pub reach-spec : {M : Type 1} → statement M
+reach-spec =
+    tie.close
+    (tie.spec
+    bits-end-requires
+    mul-into-usize
+    shared-slice-read-into-usize
+    into-usize-requires
+    into-index-requires
+    add-most
+    most-requires
+    returns
+    returns-2)

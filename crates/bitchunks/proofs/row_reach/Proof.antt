@@ -1,0 +1,46 @@
+-- `bitchunks::row_reach` meets its contract: the blocks and the next entry bound what is left. Assumes nothing.
+use borrow.Author.Needs.{needs}
+use Rattle.sets.proofs.Bytes.{length-numbers}
+use Rattle.bitchunks.proofs.Walk.{reach-end, reach-entry}
+use Rattle.bitchunks.proofs.Rows.{entry-at, entry-room}
+use Rattle.bitchunks.proofs.row_reach.Statement.{statement}
+use Rattle.bitchunks.proofs.row_reach.Tie as tie
+
+bits-end-requires : tie.Need-bits-end-requires
+bits-end-requires c κs = search needs
+
+row-entry-requires : tie.Need-row-entry-requires
+row-entry-requires c κs = (c .before .before .before .before .pre .0 .width, entry-room _ (c .if1 .taken) (c .before .before .before .before .pre .0 .entriesIn))
+
+into-index-requires : tie.Need-into-index-requires
+into-index-requires c κs = search needs
+
+add-most : tie.Need-add-most
+add-most c = search needs
+
+most-requires : tie.Need-most-requires
+most-requires c κs = search needs
+
+returns : tie.Need-returns
+returns c =
+    let s = c .before .before .before .before .before .before .before in
+    let l = c .before .before .before .if1 .taken in
+    reach-entry (s .pre .1) (c .before .before .before .before .before .bits-end .ensures) _ (length-numbers 8 _ _) _ _ _ (length-numbers _ _ _) l
+    (entry-at _ l _ _ (c .before .before .row-entry .ensures)) (c .before .into-index .ensures) (c .most .ensures)
+
+returns-2 : tie.Need-returns-2
+returns-2 c =
+    let s = c .before .before .before .before in
+    reach-end (s .pre .1) (c .before .before .bits-end .ensures) _ (length-numbers 8 _ _) (length-numbers _ _ _) (c .if1 .left)
+
+pub row-reach-spec : {M : Type 1} → statement M
+row-reach-spec =
+    tie.close
+    (tie.spec
+    bits-end-requires
+    row-entry-requires
+    into-index-requires
+    add-most
+    most-requires
+    returns
+    returns-2)

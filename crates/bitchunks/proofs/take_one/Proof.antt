@@ -1,0 +1,31 @@
+-- `bitchunks::take_one` meets its contract: the block's highest place is the largest member still to be given. Assumes nothing.
+use mathlib.Core.Path.{sym, ap₂, _∙_}
+use mathlib.Core.List.{_∷_}
+use Prim.Native.Nat.{ℕ}
+use lib.Bits.{bitXor}
+use borrow.Author.Needs.{needs}
+use Rattle.bitchunks.specs.Ones.{rest}
+use Rattle.bitchunks.proofs.Giving.{rest-one}
+use Rattle.bitchunks.proofs.take_one.Statement.{statement}
+use Rattle.bitchunks.proofs.take_one.Tie as tie
+
+from-block-msb-requires : tie.Need-from-block-msb-requires
+from-block-msb-requires c κs = search needs
+
+into-bucket-requires : tie.Need-into-bucket-requires
+into-bucket-requires c κs = search needs
+
+into-block-requires : tie.Need-into-block-requires
+into-block-requires c κs = search needs
+
+returns : tie.Need-returns
+returns c S tops a =
+    let s = c .before .before .before in (
+      rest-one S _ _ _ (c .before .before .from-block-msb .ensures)
+          ∙ ap₂ (λ (p x : ℕ). p ∷ rest S (s .args .end) (bitXor (s .args .block) x)) (sym (c .before .into-bucket .ensures)) (sym (c .into-block .ensures)),
+      a,
+    )
+
+pub take-one-spec : {M : Type 1} → statement M
+take-one-spec =
+    tie.close (tie.spec from-block-msb-requires into-bucket-requires into-block-requires returns)

@@ -1,0 +1,28 @@
+-- `bitchunks::turn_mask` meets its contract: the block moved down and the block moved up are a whole mask apart. Assumes nothing.
+use native.Mathlib.Nat.{le-of-lt, lt-of-lt-of-le, mod-lt}
+use native.Mathlib.Omega.{arith}
+use borrow.Author.Needs.{needs}
+use Rattle.bitchunks.proofs.Mask.{turned}
+use Rattle.bitchunks.proofs.turn_mask.Statement.{statement}
+use Rattle.bitchunks.proofs.turn_mask.Tie as tie
+
+mul-shift : tie.Need-mul-shift
+mul-shift c = search needs
+
+rem-shift : tie.Need-rem-shift
+rem-shift c = search needs
+
+shr-result : tie.Need-shr-result
+shr-result c = lt-of-lt-of-le (mod-lt _ (c .pre .0)) (omega arith)
+
+sub-result : tie.Need-sub-result
+sub-result c = le-of-lt (mod-lt _ (c .pre .0))
+
+shl-result : tie.Need-shl-result
+shl-result c = search needs
+
+returns : tie.Need-returns
+returns c = turned _ _ _ (c .pre .0) (c .pre .1) (c .pre .2)
+
+pub turn-mask-spec : {M : Type 1} → statement M
+turn-mask-spec = tie.close (tie.spec mul-shift rem-shift shr-result sub-result shl-result returns)
