@@ -1,15 +1,15 @@
 -- The filter of a set by configuration: record and areas are fixed by the set, and the set by them. Assumes nothing.
 use mathlib.Core.Path.{_≡_, refl, sym, ap, _∙_}
 use mathlib.Core.Bool.{true, false}
-use mathlib.Core.List.{List}
+use mathlib.Core.List.{List, _++_}
 use mathlib.Core.Logic.{_↔_}
 use Prim.Native.Nat.{ℕ, _*_, _≤_}
 use native.Mathlib.Omega.{arith}
-use lib.ListN.{take}
-use lib.Seq.{take-all}
+use lib.ListN.{take, drop}
+use lib.Seq.{drop-at, take-all, take-at}
 use Rattle.sets.specs.Sets.{Agree, Set, below}
 use Rattle.sets.specs.Configurations.{Config, W, blocks, Sound}
-use Rattle.sets.specs.Filter.{topCount, boundary, topCells, bitCells, Holds, shown, isFilter, FilterRecord, recordOf, topArea, bitArea}
+use Rattle.sets.specs.Filter.{topCount, boundary, topCells, bitCells, Holds, shown, isFilter, FilterRecord, recordOf, topArea, bitArea, topSlice, bitSlice}
 use Rattle.sets.proofs.Configurations.{whole-blocks}
 use Rattle.sets.proofs.Filters.{holds-same, length-top, length-bits}
 use Rattle.sets.proofs.Laws.{below-out}
@@ -81,3 +81,29 @@ module _ (c : Config) (s : Sound c) where
     ),
     λ w. holds-filter (c .M) (blocks c) top bits (r .count) (r .boundary) (w .0) (s .some) (stands-holds (w .2)),
   )
+
+  -- ---- slices lent for the areas
+
+  -- record and areas of sets that agree are the same
+  pub filter-agree : (S T : Set) → Agree (W c) S T → (recordOf c S ≡ recordOf c T) × (topArea c S ≡ topArea c T) × (bitArea c S ≡ bitArea c T)
+  filter-agree S T h =
+      let H = filter-same S T h (stands-self S) in (
+        H .recordIs,
+        sym (stands-self S .topIs) ∙ H .topIs,
+        sym (stands-self S .bitsAre) ∙ H .bitsAre,
+      )
+
+  pub stands-slices : (S : Set) (top bits : List ℕ) → Stands c (recordOf c S) (topSlice c S top) (bitSlice c S bits) S
+  stands-slices S top bits =
+      record {
+        recordIs = refl;
+        topIs = take-at (topArea c S) (drop (c .M) top) (c .M) (length-top (c .M) (W c) S);
+        bitsAre = take-at (bitArea c S) (drop (blocks c) bits) (blocks c) (length-bits (c .M) (W c) (blocks c) S);
+      }
+
+  -- what stands past the areas stays through several calls
+  pub top-again : (S T : Set) (top : List ℕ) → topSlice c T (topSlice c S top) ≡ topSlice c T top
+  top-again S T top = ap (λ (l : List ℕ). topArea c T ++ l) (drop-at (topArea c S) (drop (c .M) top) (c .M) (length-top (c .M) (W c) S))
+
+  pub bits-again : (S T : Set) (bits : List ℕ) → bitSlice c T (bitSlice c S bits) ≡ bitSlice c T bits
+  bits-again S T bits = ap (λ (l : List ℕ). bitArea c T ++ l) (drop-at (bitArea c S) (drop (blocks c) bits) (blocks c) (length-bits (c .M) (W c) (blocks c) S))

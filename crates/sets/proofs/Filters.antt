@@ -93,6 +93,9 @@ module _ {m k : ℕ} {top blocks : List ℕ} {count edge : ℕ} {S : Set} (H : H
   pub holds-room-bits : k ≤ length blocks
   holds-room-bits = omega (arith, length-take k blocks, ap length (H .bits) ∙ length-bits m (64 * k) k S)
 
+  pub count-fits : count ≤ length top
+  count-fits = omega (arith, holds-room-top, H .countIs)
+
   -- a top cell is a member
   pub top-at : (i : ℕ) → i < m → getD top i 0 ≡ getD (members S (64 * k)) i 0
   unfolding topCells
@@ -101,7 +104,7 @@ module _ {m k : ℕ} {top blocks : List ℕ} {count edge : ℕ} {S : Set} (H : H
 
   pub holds-tops : take count top ≡ take m (members S (64 * k))
   holds-tops =
-      let c : count ≤ length top = omega (arith, holds-room-top, H .countIs) in
+      let c = count-fits in
       ext-getD 0 (take count top) (take m (members S (64 * k))) (omega (arith, length-take-le count top c, length-take m (members S (64 * k)), H .countIs))
       (λ i h.
       let a : i < count = omega (arith, length-take-le count top c) in
@@ -110,7 +113,7 @@ module _ {m k : ℕ} {top blocks : List ℕ} {count edge : ℕ} {S : Set} (H : H
 
   pub holds-below : Below (64 * k) (take count top)
   holds-below i h =
-      let c : count ≤ length top = omega (arith, holds-room-top, H .countIs) in
+      let c = count-fits in
       let a : i < count = omega (arith, length-take-le count top c) in
       let e : getD (take count top) i 0 ≡ getD (members S (64 * k)) i 0 = getD-take count top i 0 a ∙ top-at i (omega (arith, H .countIs)) in
       omega (arith, falls-at (members S (64 * k)) (64 * k) i (members-fall S (64 * k)) (omega (arith, H .countIs)))

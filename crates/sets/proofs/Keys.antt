@@ -6,14 +6,16 @@ use Prim.Native.Nat.{ℕ, zero, suc, _+_, _-_, _*_, _^_, _≤_, _<_}
 use native.Mathlib.Nat.{div-add-mod', mod-lt, mul-le-mul-right, suc-mul, zero-div}
 use native.Mathlib.Decide.{ℕ-discrete}
 use native.Mathlib.Omega.{arith}
-use lib.ListN.{getD, drop}
+use lib.ListN.{getD, drop, take}
 use lib.Pow.{pow-pos, pow-add, shr-lt, shr-mono}
-use Rattle.sets.specs.Sets.{Below, Falls, Set, members}
+use Rattle.sets.specs.Sets.{Agree, Below, Falls, Set, members}
 use Rattle.sets.specs.Configurations.{Config, W, positionBits, wholeSlots, leftoverBits}
-use Rattle.sets.specs.Masks.{Ordering, less, equal, greater, kept, keyOf, orderOf, packed}
+use Rattle.sets.specs.Masks.{Ordering, less, equal, greater, kept, keyOf, orderOf, packed, slotsFit}
 use Rattle.sets.proofs.Configurations.{W-lt}
-use Rattle.sets.proofs.Laws.{members-fall, members-same, falls-at}
+use Rattle.sets.proofs.Laws.{members-fall, members-same, falls-at, falls-take}
+use Rattle.sets.proofs.Masks.{kept-same}
 use Rattle.sets.proofs.Order.{Leads, opposite, order-swap, order-told}
+use Rattle.sets.proofs.Tests.{below-all}
 
 head-lt : {n : ℕ} (ps : List ℕ) → 0 < n → Below n ps → getD ps 0 0 < n
 head-lt [] z h = z
@@ -32,7 +34,7 @@ digit-lt {a} {x} {y} {r} h l = omega (arith, mul-le-mul-right r h, suc-mul x r)
 -- ---- packed lists of falling buckets
 
 module _ (bits leftover : ℕ) where
-  packed-nil : (slots : ℕ) → packed bits leftover slots [] ≡ 0
+  pub packed-nil : (slots : ℕ) → packed bits leftover slots [] ≡ 0
   unfolding packed
   packed-nil zero = zero-div (2 ^ (bits - leftover))
   packed-nil (suc slots) = omega (arith, packed-nil slots)
@@ -124,3 +126,18 @@ module _ (c : Config) where
         go less e = absurd (omega (arith, greater-key T S (order-swap (W c) mask size S T ∙ ap opposite e)))
         go equal e = absurd (omega (arith, equal-key S T e))
         go greater e = refl
+
+-- every bucket is below W, and so fits its slot
+pub slots-fit : (c : Config) (mask size : ℕ) (S : Set) → slotsFit c mask size S ≡ true
+unfolding slotsFit
+slots-fit c mask size S =
+    let l : List ℕ = members (kept mask size S) (W c) in
+    let w : W c ≤ 2 ^ positionBits c = omega (arith, W-lt c) in
+    below-all (2 ^ positionBits c) (take (suc (wholeSlots c)) l)
+    (falls-below (take (suc (wholeSlots c)) l) (falls-take l (W c) (suc (wholeSlots c)) (members-fall (kept mask size S) (W c))) w)
+
+-- the key looks at the buckets below W alone
+pub key-same : (c : Config) (mask size : ℕ) (S T : Set) → Agree (W c) S T → keyOf c mask size S ≡ keyOf c mask size T
+unfolding keyOf
+key-same c mask size S T h =
+    ap (packed (positionBits c) (leftoverBits c) (wholeSlots c)) (members-same (kept mask size S) (kept mask size T) (W c) (λ p l. kept-same mask size S T p (h p l)))

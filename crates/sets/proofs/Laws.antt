@@ -2,14 +2,14 @@
 use mathlib.Core.Path.{_≡_, refl, sym, ap, ap₂, _∙_, fun-ext}
 use mathlib.Core.Bool.{Bool, true, false, cond, _&&_}
 use mathlib.Core.List.{List, [], _∷_, _++_}
-use Prim.Native.Nat.{ℕ, zero, suc, _+_, _≤_, _<_}
+use Prim.Native.Nat.{ℕ, zero, suc, _+_, _-_, _%_, _≤_, _<_}
 use native.Mathlib.Nat.{add-zero, add-suc}
 use native.Mathlib.Decide.{le-ind, decLt, ℕ-discrete}
 use native.Mathlib.Omega.{arith}
 use lib.Dec.{ltb, eqb}
-use lib.ListN.{length, getD, take}
+use lib.ListN.{length, getD, take, List·getD-eq-default}
 use borrow.Author.Tests.{lt-ltb, le-ltb, le-leb, lt-leb, eq-eqb, ne-eqb}
-use Rattle.sets.specs.Sets.{Agree, Empty, Falls, Set, apart, below, differ, flip, flips, members, none, odd, onward}
+use Rattle.sets.specs.Sets.{Agree, Below, Empty, Falls, Set, apart, below, differ, flip, flips, members, none, odd, onward, times}
 
 -- ---- differ is a sum without carry
 
@@ -59,6 +59,26 @@ pub odd-append : (bs cs : List ℕ) (p : ℕ) → odd (bs ++ cs) p ≡ differ (o
 odd-append [] cs p = refl
 odd-append (b ∷ bs) cs p = ap (differ (eqb p b)) (odd-append bs cs p) ∙ sym (differ-assoc (eqb p b) (odd bs p) (odd cs p))
 
+-- `odd` tells whether the bucket stands in the list an odd number of times
+pub odd-times : (bs : List ℕ) (p : ℕ) → odd bs p ≡ eqb (times bs p % 2) 1
+odd-times [] p = refl
+odd-times (b ∷ bs) p = go (eqb p b) (times bs p) (odd-times bs p)
+  where
+    turn : (x y : ℕ) → x < 2 → y ≡ 1 - x → differ true (eqb x 1) ≡ eqb y 1
+    turn zero y h q = sym (ap (λ (z : ℕ). eqb z 1) q)
+    turn (suc zero) y h q = sym (ap (λ (z : ℕ). eqb z 1) q)
+    turn (suc (suc x)) y h q = absurd (omega arith)
+
+    go : (a : Bool) (n : ℕ) → odd bs p ≡ eqb (n % 2) 1 → differ a (odd bs p) ≡ eqb ((cond a 1 0 + n) % 2) 1
+    go false n e =
+        let z : n ≡ 0 + n = omega arith in
+        e ∙ ap (λ (x : ℕ). eqb (x % 2) 1) z
+    go true n e = ap (differ true) e ∙ turn (n % 2) ((1 + n) % 2) (omega arith) (omega arith)
+
+-- so the order of the list does not matter
+pub odd-order : (bs cs : List ℕ) → ((p : ℕ) → times bs p ≡ times cs p) → odd bs ≡ odd cs
+odd-order bs cs h = fun-ext (λ p. odd-times bs p ∙ ap (λ (n : ℕ). eqb (n % 2) 1) (h p) ∙ sym (odd-times cs p))
+
 -- two lists in which each bucket stands as often, but for even numbers, flip a set to the same set
 pub flips-same : (bs cs : List ℕ) (S : Set) → ((p : ℕ) → odd bs p ≡ odd cs p) → flips bs S ≡ flips cs S
 flips-same bs cs S h = flips-odd bs S ∙ fun-ext (λ p. ap (λ (x : Bool). differ x (S p)) (h p)) ∙ sym (flips-odd cs S)
@@ -82,6 +102,15 @@ apart-self S = fun-ext (λ p. differ-self (S p))
 
 pub apart-none : (S : Set) → apart S none ≡ S
 apart-none S = fun-ext (λ p. differ-false (S p))
+
+pub apart-agree : {n : ℕ} (S R T U : Set) → Agree n S R → Agree n T U → Agree n (apart S T) (apart R U)
+apart-agree S R T U h k p l = ap₂ differ (h p l) (k p l)
+
+pub apart-empty : (S R : Set) (a b : ℕ) → Empty S a b → Empty R a b → Empty (apart S R) a b
+apart-empty S R a b s r p h i = ap₂ differ (s p h i) (r p h i)
+
+pub agree-empty : (S R : Set) (a b : ℕ) → Agree b S R → Empty R a b → Empty S a b
+agree-empty S R a b g e p h i = g p i ∙ e p h i
 
 -- two lists joined flip to the symmetric difference of what each flips to
 pub flips-joined : (bs cs : List ℕ) → flips (bs ++ cs) none ≡ apart (flips bs none) (flips cs none)
@@ -181,6 +210,13 @@ falls-room (x ∷ xs) n (suc i) f h = omega (arith, falls-room xs x i (f .1) (om
 pub falls-at : (l : List ℕ) (n i : ℕ) → Falls n l → i < length l → getD l i 0 < n
 falls-at l n i f h = omega (arith, falls-room l n i f h)
 
+pub falls-low : (l : List ℕ) (n i : ℕ) → Falls n l → getD l i 0 ≤ n
+falls-low l n i F = go (decLt i (length l))
+  where
+    go : Dec (i < length l) → getD l i 0 ≤ n
+    go (yes h) = omega (arith, falls-at l n i F h)
+    go (no h) = omega (arith, List·getD-eq-default l 0 {n = i} (omega arith))
+
 -- a later bucket is smaller
 pub falls-order : (l : List ℕ) (n i j : ℕ) → Falls n l → i ≤ j → j < length l → getD l j 0 ≤ getD l i 0
 falls-order [] n i j f h a = absurd (omega arith)
@@ -199,11 +235,14 @@ members-fall S (suc n) = go (S n) (members-fall S n)
     go true f = (omega arith, f)
     go false f = falls-more (members S n) (omega arith) f
 
--- in a falling list nothing stands from its bound on
+-- in a list nothing stands from its bound on
+pub odd-past : (l : List ℕ) (n p : ℕ) → Below n l → n ≤ p → odd l p ≡ false
+odd-past [] n p b h = refl
+odd-past (x ∷ xs) n p b h =
+    ap₂ differ (ne-eqb p x (omega (arith, b 0 (omega arith)))) (odd-past xs n p (λ i a. b (suc i) (omega arith)) h)
+
 pub odd-above : (l : List ℕ) (n p : ℕ) → Falls n l → n ≤ p → odd l p ≡ false
-odd-above [] n p f h = refl
-odd-above (x ∷ xs) n p f h =
-    ap₂ differ (ne-eqb p x (omega (arith, f .0))) (odd-above xs x p (f .1) (omega (arith, f .0)))
+odd-above l n p f h = odd-past l n p (λ i a. falls-at l n i f a) h
 
 below-more : (n : ℕ) (S : Set) (p : ℕ) → (p ≡ n → ⊥) → below n S p ≡ below (suc n) S p
 below-more n S p h = go (decLt p n)

@@ -3,6 +3,7 @@ pub mod Configurations
 pub mod Laws
 pub mod Lists
 pub mod Tests
+pub mod Verdicts
 pub mod Words
 pub mod Lift
 pub mod Filters

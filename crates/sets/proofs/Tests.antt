@@ -83,3 +83,12 @@ pub among-under : (l : List ℕ) (e p : ℕ) → ((i : ℕ) → i < length l →
 among-under [] e p h a = refl
 among-under (x ∷ xs) e p h a =
     ap₂ _||_ (ne-eqb p x (omega (arith, h 0 (omega arith)))) (among-under xs e p (λ i b. h (suc i) (omega arith)) a)
+
+pub below-first : (n : ℕ) (xs ys : List ℕ) → allBelow n (xs ++ ys) ≡ true → allBelow n xs ≡ true
+below-first n [] ys h = refl
+below-first n (x ∷ xs) ys h =
+    and-intro (ltb x n) (allBelow n xs) (and-left (ltb x n) (allBelow n (xs ++ ys)) h) (below-first n xs ys (and-right (ltb x n) (allBelow n (xs ++ ys)) h))
+
+pub below-second : (n : ℕ) (xs ys : List ℕ) → allBelow n (xs ++ ys) ≡ true → allBelow n ys ≡ true
+below-second n [] ys h = h
+below-second n (x ∷ xs) ys h = below-second n xs ys (and-right (ltb x n) (allBelow n (xs ++ ys)) h)

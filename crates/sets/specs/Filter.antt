@@ -118,6 +118,13 @@ topArea c S = topCells (c .M) (W c) S
 abbrev pub bitArea : Config → Set → List ℕ
 bitArea c S = bitCells (c .M) (W c) (blocks c) S
 
+-- a slice lent for an area, once the area in it is that of S
+abbrev pub topSlice : Config → Set → List ℕ → List ℕ
+topSlice c S old = filled (topArea c S) (c .M) old
+
+abbrev pub bitSlice : Config → Set → List ℕ → List ℕ
+bitSlice c S old = filled (bitArea c S) (blocks c) old
+
 -- 01: "For two filters it is that of their symmetric difference": ask it of `apart S T`.
 abbrev pub exactCountAt : Config → Set → ℕ
 exactCountAt c S = exactCount (W c) S

@@ -5,7 +5,7 @@ use Prim.Native.Nat.{ℕ, zero, suc}
 use lib.Dec.{eqb, leb}
 use lib.ListN.{length}
 use Rattle.sets.specs.Sets.{Set, allBelow}
-use Rattle.sets.specs.Configurations.{Config, W, blocks, known}
+use Rattle.sets.specs.Configurations.{Config, W, blocks, known, configAt}
 use Rattle.sets.specs.Filter.{FilterRecord, isFilter, isBuilder}
 use Rattle.sets.specs.Masks.{sizeFits, maskFits, slotsFit}
 use Rattle.sets.specs.Row.{lengthFits, entriesFit, sound, fallFault, countFault, spareFault, highFault}
@@ -92,8 +92,12 @@ abbrev pub isSplit : Config → ℕ → Test
 isSplit c split = (range, leb split (W c))
 
 -- 3: "a lent slice is shorter than its area, or than the row to be written"
-abbrev pub holdsArea : ℕ → List ℕ → Test
-holdsArea cells slice = (room, leb cells (length slice))
+abbrev pub holdsArea : ℕ → ℕ → Test
+holdsArea cells lent = (room, leb cells lent)
+
+-- a filter's two areas, in slices of so many cells
+abbrev pub holdAreas : Config → ℕ → ℕ → List Test
+holdAreas c top bits = holdsArea (c .M) top ∷ holdsArea (blocks c) bits ∷ []
 
 abbrev pub holdsRow : List ℕ → List ℕ → Test
 holdsRow written slice = (buffer, leb (length written) (length slice))
@@ -127,3 +131,17 @@ isRowOf c bs =
     ∷ (spare, sound (spareFault c bs))
     ∷ (high, sound (highFault c bs))
     ∷ []
+
+-- ---- the tests on what a call is lent
+
+-- 1 and 3: two slices of so many cells, to hold a filter of the configuration n
+abbrev pub areasLent : ℕ → ℕ → ℕ → List Test
+areasLent n top bits = isKnown n ∷ holdAreas (configAt n) top bits
+
+-- 1, 3 and 8: a filter
+abbrev pub filterLent : FilterRecord → List ℕ → List ℕ → List Test
+filterLent r top bits = areasLent (r .config) (length top) (length bits) ++ (areFilter (configAt (r .config)) r top bits ∷ [])
+
+-- 1, 3, 8 and 9: two filters
+abbrev pub filtersLent : FilterRecord → List ℕ → List ℕ → FilterRecord → List ℕ → List ℕ → List Test
+filtersLent r top bits o top2 bits2 = filterLent r top bits ++ (filterLent o top2 bits2 ++ (areAlike (r .config) (o .config) ∷ []))

@@ -2,7 +2,7 @@
 use mathlib.Core.Path.{_≡_}
 use mathlib.Core.Bool.{Bool, true, false, cond, _&&_, _||_}
 use mathlib.Core.List.{List, [], _∷_}
-use Prim.Native.Nat.{ℕ, zero, suc, _≤_, _<_}
+use Prim.Native.Nat.{ℕ, zero, suc, _+_, _≤_, _<_}
 use lib.Dec.{ltb, leb, eqb}
 use lib.ListN.{length, getD}
 
@@ -57,6 +57,11 @@ members S (suc n) = cond (S n) (n ∷ members S n) (members S n)
 abbrev pub among : List ℕ → Set
 among [] p = false
 among (x ∷ xs) p = eqb p x || among xs p
+
+-- how often p stands in the list
+abbrev pub times : List ℕ → ℕ → ℕ
+times [] p = 0
+times (b ∷ bs) p = cond (eqb p b) 1 0 + times bs p
 
 -- whether p stands in the list an odd number of times
 abbrev pub odd : List ℕ → Set
