@@ -13,9 +13,9 @@ use lib.Pow.{pow-lt}
 use lib.ListN.{length, getD, take, drop, List·getD-eq-default}
 use lib.Seq.{drop-cons, drop-length, getD-take, length-take-le}
 use borrow.Author.Tests.{eq-eqb, ne-eqb, le-leb, lt-leb}
-use Rattle.sets.specs.Sets.{Empty, Falls, Set, among, apart, differ}
+use Rattle.sets.specs.Sets.{Empty, Falls, Set, among, apart}
 use Rattle.sets.specs.Words.{blockAt, digit, held}
-use Rattle.sets.proofs.Laws.{falls-more, odd-above}
+use Rattle.sets.proofs.Laws.{falls-more, odd-above, apart-empty}
 use Rattle.sets.proofs.Tests.{falls-among}
 use Rattle.sets.proofs.Words.{held-block, digit-or, digit-zero, digit-pow, digits-same, digit-word, word-lt, word-apart}
 use Rattle.bitchunks.specs.Walk.{merged, bitsAt, Ahead, Bounded, Merging, Passed, Reached}
@@ -213,11 +213,8 @@ module _ {S R : Set} {tops others : List ℕ} {passed other end x y : ℕ} (a : 
   there : Reached R others other end e
   there = reached-more e (omega arith) (omega (arith, r .within, t .within)) b t
 
-  none-apart : (k : ℕ) → Empty S (64 * k) (64 * end) → Empty R (64 * k) (64 * end) → Empty (apart S R) (64 * k) (64 * end)
-  none-apart k u v p h l = ap₂ differ (u p h l) (v p h l)
-
   pub cross-none : e ≡ 0 → Empty (apart S R) 0 (64 * end)
-  cross-none z = none-apart 0 (step-none here z) (step-none there z)
+  cross-none z = apart-empty S R 0 (64 * end) (step-none here z) (step-none there z)
 
   module _ (z : e ≡ 0 → ⊥) where
     pub cross-ahead : Ahead tops passed (suc (e - 1))
@@ -230,7 +227,7 @@ module _ {S R : Set} {tops others : List ℕ} {passed other end x y : ℕ} (a : 
     cross-chunk u s =
         record {
           under = step-under here z;
-          gap = none-apart (suc (e - 1)) (step-gap here z) (step-gap there z);
+          gap = apart-empty S R (64 * suc (e - 1)) (64 * end) (step-gap here z) (step-gap there z);
           is = ap₂ bitXor (u .is) (s .is) ∙ sym (word-apart S R (64 * (e - 1)) 64);
           firstIs = u .is;
           ahead = u .ahead;

@@ -29,8 +29,12 @@ pub record Lifted (m k : ℕ) (top₀ blocks₀ top blocks : List ℕ) (r : ℕ)
   pub topLength : length top ≡ length top₀
   pub bitLength : length blocks ≡ length blocks₀
 
--- in memory stands the filter of the set that the blocks held; what stands past the areas is as it was
-pub record SplitOf (m k : ℕ) (top₀ blocks₀ top blocks : List ℕ) (count edge : ℕ) : Type 0 where
-  pub holds : Holds m k top blocks count edge (held blocks₀)
+-- in memory stands the filter of S; what stands past the areas is as it was
+pub record Becomes (m k : ℕ) (S : Set) (top₀ blocks₀ top blocks : List ℕ) (count edge : ℕ) : Type 0 where
+  pub holds : Holds m k top blocks count edge S
   pub topRest : drop m top ≡ drop m top₀
   pub bitRest : drop k blocks ≡ drop k blocks₀
+
+-- that of the set that the blocks held
+abbrev pub SplitOf : ℕ → ℕ → List ℕ → List ℕ → List ℕ → List ℕ → ℕ → ℕ → Type 0
+SplitOf m k top₀ blocks₀ top blocks count edge = Becomes m k (held blocks₀) top₀ blocks₀ top blocks count edge
