@@ -1,0 +1,3 @@
+pub mod Passing
+pub mod Soundness
+pub mod Verdicts
