@@ -1,0 +1,44 @@
+-- A filter made in lent memory: what a call answers and leaves.
+use mathlib.Core.Path.{_≡_}
+use mathlib.Core.List.{List}
+use Prim.Native.Nat.{ℕ, _*_, _≤_}
+use Rattle.sets.specs.Sets.{Set, Below}
+use Rattle.sets.specs.Configurations.{Config}
+use Rattle.sets.specs.Filter.{FilterRecord, recordOf, topSlice, bitSlice}
+use Rattle.sets.specs.Refusals.{Verdict, verdict, answer, filtersLent}
+use Rattle.sizes.specs.Sizes.{refusal}
+use Rattle.sizes.specs.declared.SizesAnswer.{SizesAnswer}
+use Rattle.bitvec.specs.declared.Tally.{Tally}
+use Rattle.judge.specs.Judging.{judged}
+use Rattle.diff_count.specs.declared.Filter.{Filter}
+use Rattle.diff_count.specs.declared.Made.{Made}
+use Rattle.diff_count.specs.declared.Made.the-variants.{Ready, Refused}
+
+-- 01's record (configuration, top count, boundary)
+abbrev pub recordIn : Filter → FilterRecord
+recordIn f = record { config = f .config; count = f .count; boundary = f .boundary }
+
+abbrev pub filterIn : FilterRecord → Filter
+filterIn r = record { config = r .config; count = r .count; boundary = r .boundary }
+
+abbrev pub tallyOf : Filter → Tally
+tallyOf f = record { count = f .count; boundary = f .boundary }
+
+-- 1, 3, 8 and 9 of two filters: the sizes, or the number of the first test that fails
+unfoldable pub filtersOf : Filter → List ℕ → List ℕ → Filter → List ℕ → List ℕ → SizesAnswer
+filtersOf f top bits g top2 bits2 = judged (f .config) (verdict (filtersLent (recordIn f) top bits (recordIn g) top2 bits2))
+
+-- the promise of a call that makes the filter of S in a configuration: an equation for the answer and for each slice that it writes;
+-- a refusal gives its number, and leaves the slices as they came
+pub record Makes (v : Verdict) (c : Config) (S : Set) (top bits : List ℕ) (r : Made) (top′ bits′ : List ℕ) : Type 0 where
+  pub answers : r ≡ answer v (λ n. Refused (refusal n)) (Ready (filterIn (recordOf c S)))
+  pub tops : top′ ≡ answer v (λ n. top) (topSlice c S top)
+  pub blocks : bits′ ≡ answer v (λ n. bits) (bitSlice c S bits)
+
+-- ---- inner functions
+
+-- no fewer than `least` and no more than are needed for it and for the buckets listed
+pub record UpTo (list : List ℕ) (least r : ℕ) : Type 0 where
+  pub low : least ≤ r
+  pub covers : Below (64 * r) list
+  pub high : (k : ℕ) → least ≤ k → Below (64 * k) list → r ≤ k
