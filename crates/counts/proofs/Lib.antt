@@ -1,0 +1,2 @@
+pub mod Counted
+pub mod Theorems

@@ -1,0 +1,59 @@
+-- `counts::exact_count` meets its contract: a filter that the judge takes is that of the set shown. Assumes nothing.
+use native.Mathlib.Omega.{arith}
+use Rattle.counts.specs.Counting.{exactOf}
+use Rattle.counts.specs.declared.CountAnswer.the-variants as counts
+use Rattle.judge.proofs.Verdicts.{refuses}
+use Rattle.diff_count.proofs.Told.{One, one, one-not}
+use Rattle.counts.proofs.Counted.{one-exact}
+use borrow.Author.Needs.{needs}
+use Rattle.counts.proofs.exact_count.Statement.{statement}
+use Rattle.counts.proofs.exact_count.Tie as tie
+
+-- what the judge told
+told : (c : tie.After-enum-told) →
+    let a = c .before .before .before .before .before .args in
+    One (a .f) (a .top .now) (a .blocks .now) (c .enum-told .given .0 .0)
+told c =
+    let a = c .before .before .before .before .before .args in
+    one (a .f) (a .top .now) (a .blocks .now) (c .enum-told .given .0 .0) (c .before .before .filter-lent .ensures) (c .enum-told .given .1)
+
+filter-lent-requires : tie.Need-filter-lent-requires
+filter-lent-requires c κs = search needs
+
+enum-told : tie.Need-enum-told
+enum-told c = search needs
+
+num-blocks-requires : tie.Need-num-blocks-requires
+num-blocks-requires c κs = omega (arith, told c .fits)
+
+exact-count-requires : tie.Need-exact-count-requires
+exact-count-requires c κs =
+    let F = told (c .before) .fits in
+    (omega arith, omega (arith, c .num-blocks .ensures), omega (arith, c .num-blocks .ensures))
+
+enum-known-r : tie.Need-enum-known-r
+enum-known-r c = search needs
+
+returns : tie.Need-returns
+returns c =
+    let a = c .before .before .before .before .before .before .before .args in
+    let k = c .before .before in
+    one-exact (a .f) (a .top .now) (a .blocks .now) (k .enum-told .given .0 .0) (told k) (c .before .num-blocks .result) (c .before .num-blocks .ensures) (c .exact-count .result) (c .exact-count .ensures)
+
+returns-2 : tie.Need-returns-2
+unfolding exactOf
+returns-2 c =
+    let a = c .before .before .before .before .before .before .args in
+    refuses (λ x. counts.Refused x) _ (one-not (a .f) (a .top .now) (a .blocks .now) (c .before .r .given .0 .0) (c .before .before .before .filter-lent .ensures) (c .before .r .given .1))
+
+pub exact-count-spec : {M : Type 1} → statement M
+exact-count-spec =
+    tie.close
+    (tie.spec
+    filter-lent-requires
+    enum-told
+    num-blocks-requires
+    exact-count-requires
+    enum-known-r
+    returns
+    returns-2)

@@ -1,0 +1,64 @@
+-- `counts::limited_count` meets its contract: a filter that the judge takes is that of the set shown. Assumes nothing.
+use native.Mathlib.Omega.{arith}
+use Rattle.counts.specs.Counting.{limitedOf}
+use Rattle.counts.specs.declared.LimitedAnswer.the-variants as limits
+use Rattle.judge.proofs.Verdicts.{refuses}
+use Rattle.diff_count.proofs.Told.{One, one, one-not}
+use Rattle.counts.proofs.Counted.{one-limited}
+use borrow.Author.Needs.{needs}
+use Rattle.counts.proofs.limited_count.Statement.{statement}
+use Rattle.counts.proofs.limited_count.Tie as tie
+
+-- what the judge told
+told : (c : tie.After-known-told) →
+    let a = c .before .before .before .before .before .before .args in
+    One (a .f) (a .top .now) (a .blocks .now) (c .before .s .given .0 .0)
+told c =
+    let a = c .before .before .before .before .before .before .args in
+    one (a .f) (a .top .now) (a .blocks .now) (c .before .s .given .0 .0) (c .before .before .before .filter-lent .ensures) (c .before .s .given .1)
+
+filter-lent-requires : tie.Need-filter-lent-requires
+filter-lent-requires c κs = search needs
+
+enum-known-s : tie.Need-enum-known-s
+enum-known-s c = search needs
+
+last-entry-requires : tie.Need-last-entry-requires
+last-entry-requires c κs = omega (arith, told c .fits)
+
+num-blocks-requires : tie.Need-num-blocks-requires
+num-blocks-requires c κs = omega (arith, told (c .before) .fits)
+
+count-ones-from-msb-and-lsb-requires : tie.Need-count-ones-from-msb-and-lsb-requires
+count-ones-from-msb-and-lsb-requires c κs =
+    let F = told (c .before .before) .fits in
+    (omega arith, omega (arith, c .before .last-entry .ensures), omega (arith, c .num-blocks .ensures), omega (arith, c .num-blocks .ensures))
+
+enum-known-r : tie.Need-enum-known-r
+enum-known-r c = search needs
+
+returns : tie.Need-returns
+returns c =
+    let a = c .before .before .before .before .before .before .before .before .before .args in
+    let k = c .before .before .before in
+    one-limited (a .f) (a .top .now) (a .blocks .now) (k .before .s .given .0 .0) (told k) (c .before .num-blocks .result) (c .before .num-blocks .ensures)
+    (c .count-ones-from-msb-and-lsb .result) (c .before .before .last-entry .result) (c .before .before .last-entry .ensures) (c .count-ones-from-msb-and-lsb .ensures)
+
+returns-2 : tie.Need-returns-2
+unfolding limitedOf
+returns-2 c =
+    let a = c .before .before .before .before .before .before .args in
+    refuses (λ x. limits.Refused x) _ (one-not (a .f) (a .top .now) (a .blocks .now) (c .before .r .given .0 .0) (c .before .before .before .filter-lent .ensures) (c .before .r .given .1))
+
+pub limited-count-spec : {M : Type 1} → statement M
+limited-count-spec =
+    tie.close
+    (tie.spec
+    filter-lent-requires
+    enum-known-s
+    last-entry-requires
+    num-blocks-requires
+    count-ones-from-msb-and-lsb-requires
+    enum-known-r
+    returns
+    returns-2)
