@@ -1,0 +1,95 @@
+-- The search for the highest block in which a mask keeps a difference of two walks, and the order that this block tells. Assumes nothing.
+use mathlib.Core.Path.{_≡_, refl, sym, ap, _∙_, subst}
+use mathlib.Core.Bool.{Bool, true, false, cond}
+use mathlib.Core.List.{List}
+use Prim.Native.Nat.{ℕ, suc, _+_, _-_, _*_, _/_, _%_, _^_, _<_}
+use native.Mathlib.Decide.{decLt}
+use native.Mathlib.Omega.{arith}
+use lib.Bits.{bitAnd}
+use borrow.Author.Tests.{eq-eqb, ne-eqb}
+use Rattle.sets.specs.Sets.{Empty, Set, apart}
+use Rattle.sets.specs.Words.{TopDigit, blockAt, digit}
+use Rattle.sets.specs.Masks.{less, greater, holder, kept, laid, orderOf}
+use Rattle.sets.proofs.Laws.{members-head, members-none}
+use Rattle.sets.proofs.Words.{digit-word, top-member}
+use Rattle.bitchunks.specs.Walk.{Ahead, Next}
+use Rattle.bitchunks.specs.Xor.{Crossed, NextApart}
+use Rattle.bitchunks.specs.declared.Cursors.{Cursors}
+use Rattle.bitchunks.specs.declared.NextChunk.the-variants as chunks
+use Rattle.bitchunks.specs.declared.NextXor.{NextXor}
+use Rattle.bitchunks.specs.declared.NextXor.the-variants.{Chunk, Nothing}
+use Rattle.bitchunks.proofs.Giving.{Skipping, skip-start, skip-none, skip-turn, skip-end}
+use Rattle.masked.specs.Inner.{DecidesAt, orderTold}
+use Rattle.masked.specs.declared.OrderAnswer.the-variants as orders
+
+-- ---- the search
+
+-- in the blocks from `end` up to k the mask keeps no difference
+pub record Differing (S R : Set) (mask size : ℕ) (tops others : List ℕ) (k passed other end : ℕ) : Type 0 where
+  pub skips : Skipping (apart S R) tops mask size k passed end
+  pub otherAhead : Ahead others other end
+
+pub differ-start : {tops others : List ℕ} {passed other k : ℕ} (S R : Set) (mask size : ℕ) → Ahead tops passed k → Ahead others other k
+    → Differing S R mask size tops others k passed other k
+differ-start S R mask size a b = record { skips = skip-start (apart S R) mask size a; otherAhead = b }
+
+module _ {S R : Set} {mask size : ℕ} {tops others : List ℕ} {k passed other end : ℕ} (t : Differing S R mask size tops others k passed other end) where
+  pub differ-none : {r : NextXor} → r ≡ Nothing → NextApart S R tops others end r → Empty (kept mask size (apart S R)) 0 (64 * k)
+  differ-none q n = skip-none (t .skips) {r = chunks.Nothing} refl (subst (NextApart S R tops others end) q n)
+
+  module _ {r : NextXor} {block first : ℕ} {c : Cursors} (q : r ≡ Chunk block first c) (n : NextApart S R tops others end r) where
+    pub differ-step : Crossed S R tops others end (c .end) block first (c .passed) (c .passed2)
+    differ-step = subst (NextApart S R tops others end) q n
+
+    -- the same as a step over one set, the symmetric difference
+    alone : Next (apart S R) tops end (chunks.Chunk block (record { passed = c .passed; end = c .end }))
+    alone = (differ-step .under, differ-step .gap, record { is = differ-step .is; ahead = differ-step .ahead })
+
+    module _ {turned : ℕ} (m : turned ≡ blockAt (laid mask size) (c .end)) where
+      -- the mask keeps nothing of the block
+      pub differ-turn : bitAnd block turned ≡ 0 → Differing S R mask size tops others k (c .passed) (c .passed2) (c .end)
+      differ-turn z = record { skips = skip-turn (t .skips) refl alone m z; otherAhead = differ-step .otherAhead }
+
+      pub differ-end : (bitAnd block turned ≡ 0 → ⊥) → DecidesAt mask size S R k (bitAnd block turned) first
+      differ-end z =
+          let f = skip-end (t .skips) refl alone m z in
+          record { index = c .end; under = f .1 .0; gap = f .1 .1; some = f .0; is = f .1 .2 .is; firstIs = differ-step .firstIs }
+
+-- ---- the order
+
+pub order-none : (mask size : ℕ) (S R : Set) (k : ℕ) → Empty (kept mask size (apart S R)) 0 (64 * k)
+    → orders.Equal ≡ orderTold (orderOf (64 * k) mask size S R)
+unfolding orderOf
+order-none mask size S R k e =
+    sym (ap (λ (l : List ℕ). orderTold (holder S l)) (members-none (kept mask size (apart S R)) (64 * k) (λ p l. e p (omega arith) l)))
+
+module _ {mask size : ℕ} {S R : Set} {k keeps first bit : ℕ} (d : DecidesAt mask size S R k keeps first) (t : TopDigit keeps bit) where
+  abbrev D : Set
+  D = kept mask size (apart S R)
+
+  abbrev i : ℕ
+  i = d .index
+
+  highest : (D (64 * i + bit) ≡ true) × ((q : ℕ) → bit < q → q < 64 → D (64 * i + q) ≡ false)
+  highest = top-member D i bit (subst (λ (w : ℕ). TopDigit w bit) (d .is) t)
+
+  -- the highest place of the block is the largest kept bucket that exactly one of the two holds
+  order-is : orderOf (64 * k) mask size S R ≡ cond (digit first bit) greater less
+  unfolding orderOf
+  order-is =
+      ap (holder S) (members-head D (64 * i + bit) (64 * k) (omega (arith, t .small, d .under)) (highest .0) (λ p a b. go p a b (decLt p (64 * suc i))))
+      ∙ ap (λ (b : Bool). cond b greater less) (sym (digit-word S (64 * i) 64 bit (t .small)) ∙ ap (λ (w : ℕ). digit w bit) (sym (d .firstIs)))
+    where
+      go : (p : ℕ) → 64 * i + bit < p → p < 64 * k → Dec (p < 64 * suc i) → D p ≡ false
+      go p a b (yes h) =
+          let x : p ≡ 64 * i + (p - 64 * i) = omega arith in
+          ap D x ∙ highest .1 (p - 64 * i) (omega arith) (omega arith)
+      go p a b (no h) = d .gap p (omega arith) b
+
+  pub order-greater : first / 2 ^ bit % 2 ≡ 1 → orders.Greater ≡ orderTold (orderOf (64 * k) mask size S R)
+  unfolding digit
+  order-greater h = sym (ap orderTold (order-is ∙ ap (λ (b : Bool). cond b greater less) (eq-eqb (first / 2 ^ bit % 2) 1 h)))
+
+  pub order-less : (first / 2 ^ bit % 2 ≡ 1 → ⊥) → orders.Less ≡ orderTold (orderOf (64 * k) mask size S R)
+  unfolding digit
+  order-less h = sym (ap orderTold (order-is ∙ ap (λ (b : Bool). cond b greater less) (ne-eqb (first / 2 ^ bit % 2) 1 h)))

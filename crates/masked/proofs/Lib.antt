@@ -1,0 +1,4 @@
+pub mod Differing
+pub mod Packing
+pub mod Asked
+pub mod Theorems

@@ -1,0 +1,93 @@
+-- `masked::cmp_masked` meets its contract: a judge's refusal is the call's, and where both judges pass the walks go over the sets shown. Assumes nothing.
+use borrow.Author.Needs.{needs}
+use denote.Ref.{now}
+use native.Mathlib.Omega.{arith}
+use Rattle.diff_count.proofs.Told.{Two, fits-walk, two, two-not}
+use Rattle.masked.proofs.Asked.{block-laid, cmp-done, cmp-refused, cmp-unmasked, mask-in}
+use Rattle.masked.proofs.cmp_masked.Statement.{statement}
+use Rattle.masked.proofs.cmp_masked.Tie as tie
+
+-- where the judge knows both filters
+told : (k : tie.After-s) →
+    let s = k .before .before .before .before .before .before .before in
+    Two (s .args .a) (now (s .args .top)) (now (s .args .blocks)) (s .args .b) (now (s .args .top2)) (now (s .args .blocks2)) (k .s .given .0 .0)
+told k =
+    let s = k .before .before .before .before .before .before .before in
+    two (s .args .a) (now (s .args .top)) (now (s .args .blocks)) (s .args .b) (now (s .args .top2)) (now (s .args .blocks2)) (k .s .given .0 .0)
+    (k .before .before .filters-lent .ensures) (k .s .given .1)
+
+filters-lent-requires : tie.Need-filters-lent-requires
+filters-lent-requires c κs = search needs
+
+enum-known-s : tie.Need-enum-known-s
+enum-known-s c = search needs
+
+mask-requires : tie.Need-mask-requires
+mask-requires c κs = search needs
+
+enum-told : tie.Need-enum-told
+enum-told c = search needs
+
+num-blocks-requires : tie.Need-num-blocks-requires
+num-blocks-requires c κs = omega (arith, told (c .before .before .before .before) .fits)
+
+num-blocks-requires-2 : tie.Need-num-blocks-requires-2
+num-blocks-requires-2 c κs = omega (arith, told (c .before .before .before .before .before) .fits2)
+
+repeat-mask-requires : tie.Need-repeat-mask-requires
+repeat-mask-requires c κs =
+    let t = c .before .before in
+    mask-in _ _ (t .before .before .mask .ensures) (t .enum-told .given .1)
+
+order-requires : tie.Need-order-requires
+order-requires c κs =
+    let t = c .before .before .before in
+    let w = told (t .before .before .before .before) in (
+      fits-walk (c .before .before .num-blocks .result) (c .before .before .num-blocks .ensures) (w .fits) .0,
+      (fits-walk (c .before .num-blocks2 .result) (c .before .num-blocks2 .ensures) (w .fits2) .0, block-laid _ _ (t .before .before .mask .ensures) (t .enum-told .given .1) (c .repeat-mask .ensures)),
+    )
+
+enum-known-r : tie.Need-enum-known-r
+enum-known-r c = search needs
+
+enum-known-r-2 : tie.Need-enum-known-r-2
+enum-known-r-2 c = search needs
+
+returns : tie.Need-returns
+returns c =
+    let t = c .before .before .before .before in
+    let k = t .before .before .before .before in
+    let s = k .before .before .before .before .before .before .before in
+    cmp-done (s .args .a) _ _ (s .args .b) _ _ _ _ (told k) (t .before .before .mask .ensures) (t .enum-told .given .1)
+    (c .before .before .before .num-blocks .ensures) (c .before .before .num-blocks2 .ensures) (c .before .repeat-mask .ensures) (c .order .ensures)
+
+returns-2 : tie.Need-returns-2
+returns-2 c =
+    let k = c .before .before .before .before .before in
+    let s = k .before .before .before .before .before .before .before in
+    cmp-unmasked (s .args .a) _ _ (s .args .b) _ _ _ _ (told k) (c .before .before .before .mask .ensures) (c .before .r .given .1)
+
+returns-3 : tie.Need-returns-3
+returns-3 c =
+    let s = c .before .before .before .before .before .before .before .before in
+    cmp-refused (s .args .a) (now (s .args .top)) (now (s .args .blocks)) (s .args .b) (now (s .args .top2)) (now (s .args .blocks2)) _ _
+    (two-not (s .args .a) (now (s .args .top)) (now (s .args .blocks)) (s .args .b) (now (s .args .top2)) (now (s .args .blocks2)) (c .before .r2 .given .0 .0)
+    (c .before .before .before .filters-lent .ensures) (c .before .r2 .given .1))
+
+pub cmp-masked-spec : {M : Type 1} → statement M
+cmp-masked-spec =
+    tie.close
+    (tie.spec
+    filters-lent-requires
+    enum-known-s
+    mask-requires
+    enum-told
+    num-blocks-requires
+    num-blocks-requires-2
+    repeat-mask-requires
+    order-requires
+    enum-known-r
+    enum-known-r-2
+    returns
+    returns-2
+    returns-3)
