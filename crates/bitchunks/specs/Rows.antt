@@ -3,7 +3,7 @@ use mathlib.Core.Path.{_≡_}
 use mathlib.Core.Logic.{_⊎_}
 use mathlib.Core.List.{List}
 use Prim.Native.Nat.{ℕ, _+_, _-_, _*_, _/_, _^_, _≤_, min}
-use lib.ListN.{length, drop}
+use lib.ListN.{length, getD, drop}
 use Rattle.sets.specs.Sets.{Set}
 use Rattle.sets.specs.Configurations.{Config}
 use Rattle.sets.specs.Row.{numbers, rowBlockCount, topBytes}
@@ -12,6 +12,10 @@ use Rattle.bitchunks.specs.declared.Layout.{Layout}
 
 abbrev pub entries : Layout → List ℕ → List ℕ
 entries s row = numbers (s .width) (s .count) row
+
+-- the smallest of m entries, 0 where there are fewer
+abbrev pub edgeIn : Layout → ℕ → List ℕ → ℕ
+edgeIn s m row = getD (entries s row) (m - 1) 0
 
 abbrev pub blocks : Layout → List ℕ → List ℕ
 blocks s row = numbers 8 (s .n) (drop (s .at) row)

@@ -95,7 +95,7 @@ fn most(a: usize, b: usize) -> usize
     a
 }
 
-fn least(a: usize, b: usize) -> usize
+pub fn least(a: usize, b: usize) -> usize
     ensures { λ r. ⌜ r ≡ min a b ⌝ }
 {
     if a < b {
@@ -232,7 +232,7 @@ pub fn next_xor_chunk(
 // ---- the same walks over the bytes of rows
 
 // The entry at a place, of 2 or 4 bytes.
-fn row_entry(row: &[u8], width: usize, place: usize) -> usize
+pub fn row_entry(row: &[u8], width: usize, place: usize) -> usize
     requires { ⌜ ((width ≡ 2) ⊎ (width ≡ 4)) × (place * width + width ≤ length (now row)) ⌝ }
     ensures { λ r. ⌜ r ≡ little (take width (drop (place * width) (now (row .entry)))) ⌝ }
 {

@@ -7,7 +7,7 @@ use native.Mathlib.Numerals.{add-one}
 use native.Mathlib.Omega.{arith}
 use lib.Bits.{bitXor}
 use lib.ListN.{length, getD, take, drop, set, replicate, length-append, length-drop, length-replicate, length-set, take-append-drop, getD-replicate, replicate-append-replicate, List·getD-append}
-use lib.Seq.{drop-cons, drop-at, drop-drop, set-at, getD-take, getD-append-add, length-take-le}
+use lib.Seq.{drop-cons, drop-at, drop-drop, set-at, take-at, getD-take, getD-append-add, length-take-le}
 use Rattle.sets.specs.Sets.{apart, tabulate}
 use Rattle.sets.specs.Words.{digit, held}
 use Rattle.sets.specs.Filter.{filled}
@@ -147,10 +147,14 @@ module _ (a b : ℕ) (l : List ℕ) (h : a ≤ b) (n : b ≤ length l) where
       ∙ getD-append-add (take a l) (replicate (b - a) 0) (i - a) 0
       ∙ getD-replicate (b - a) (i - a) 0 0 (omega arith)
 
+  pub zeroed-first : take a (zeroed a b l) ≡ take a l
+  unfolding zeroed
+  zeroed-first = take-at (take a l) (filled (replicate (b - a) 0) b l) a (length-take-le a l (omega arith))
+
   pub zeroed-rest : drop b (zeroed a b l) ≡ drop b l
   zeroed-rest = ap (drop b) (zeroed-filled a b l) ∙ filled-rest (zeros a l b) b l long
 
-  length-zeroed : length (zeroed a b l) ≡ length l
+  pub length-zeroed : length (zeroed a b l) ≡ length l
   length-zeroed =
       ap length (zeroed-filled a b l) ∙ length-append (zeros a l b) (drop b l) ∙ omega (arith, long, length-drop b l)
 

@@ -229,8 +229,8 @@ pub fn write(to: &mut [u8], at: usize, blocks: &[u64], boundary: usize) -> usize
     at + 1 + 8 * n
 }
 
-// The n blocks whose bytes begin at a place.
-pub fn read_blocks(blocks: &mut [u64], from: &[u8], at: usize, n: usize)
+// The n blocks whose bytes begin at a place: what `write` wrote there, behind the spare byte.
+pub fn from_bytes(blocks: &mut [u64], from: &[u8], at: usize, n: usize)
     requires { ⌜ (n ≤ length (now blocks)) × (8 * n ≤ length (now from) - at) ⌝ }
     ensures { λ _. ⌜ now (blocks .exit) ≡ filled (numbers 8 n (drop at (now (from .entry)))) n (now (blocks .entry)) ⌝ }
 {
@@ -239,14 +239,6 @@ pub fn read_blocks(blocks: &mut [u64], from: &[u8], at: usize, n: usize)
         blocks[i] = unaligned::read_u64(from, at + 8 * i);
         i += 1;
     }
-}
-
-// The blocks of the bit part that stands at a place: what `write` wrote there, without the spare byte.
-pub fn from_bytes(blocks: &mut [u64], from: &[u8], at: usize, boundary: usize)
-    requires { ⌜ (boundary ≤ 2 ^ 32) × (blocksFor boundary ≤ length (now blocks)) × (8 * blocksFor boundary ≤ length (now from) - (at + 1)) × (at < 2 ^ 63) ⌝ }
-    ensures { λ _. ⌜ now (blocks .exit) ≡ filled (numbers 8 (blocksFor boundary) (drop (at + 1) (now (from .entry)))) (blocksFor boundary) (now (blocks .entry)) ⌝ }
-{
-    read_blocks(blocks, from, at + 1, num_blocks(boundary));
 }
 
 // How many buckets the n blocks hold whose bytes begin at a place.

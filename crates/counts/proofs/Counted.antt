@@ -7,12 +7,10 @@ use lib.ListN.{length, getD, take}
 use Rattle.sets.specs.Sets.{Agree, Set, apart}
 use Rattle.sets.specs.Configurations.{Config, W, blocksFor, windowBlocks, configAt}
 use Rattle.sets.specs.Filter.{Holds, exactCount, exactCountAt, lastEntry, limitedBound, limitedCount, shown}
-use Rattle.sets.specs.Refusals.{answer}
 use Rattle.sets.proofs.Laws.{apart-agree, members-same}
 use Rattle.sets.proofs.Configurations.{line-at}
 use Rattle.sets.proofs.Filters.{holds-tops}
 use Rattle.sets.proofs.Counts.{limited-same, bound-same}
-use Rattle.sizes.specs.Sizes.{refusal}
 use Rattle.sizes.specs.declared.Sizes.{Sizes}
 use Rattle.bitchunks.specs.Walk.{filterSet}
 use Rattle.bitchunks.specs.Counts.{LimitedTo}

@@ -9,7 +9,7 @@ use lib.ListN.{length}
 use Rattle.sets.specs.Sets.{Agree, Set, allBelow, apart, differ, flips, none, odd, times}
 use Rattle.sets.specs.Configurations.{Config, W, blocks, known, configAt}
 use Rattle.sets.specs.Filter.{FilterRecord, filled, recordOf, topSlice, bitSlice}
-use Rattle.sets.specs.Refusals.{Verdict, taken, answer, filterLent, areBuckets}
+use Rattle.sets.specs.Refusals.{Verdict, taken, filterLent, areBuckets}
 use Rattle.sets.proofs.Areas.{Stands, filter-agree, stands-slices, shown-back, top-again, bits-again}
 use Rattle.sets.proofs.Configurations.{line-at, number-at}
 use Rattle.sets.proofs.Filters.{flips-agree}
@@ -53,7 +53,7 @@ pub record Lent (n : ℕ) (top bits : List ℕ) : Type 0 where
 
 module _ (n : ℕ) (k : known n ≡ true) where
   -- what was made of a set R that agrees with S is what is made of S
-  settled : (v : Verdict) (R S : Set) (t b t₀ b₀ : List ℕ) {r : Made} {t′ b′ : List ℕ} → v ≡ taken → Agree (W (configAt n)) R S
+  pub settled : (v : Verdict) (R S : Set) (t b t₀ b₀ : List ℕ) {r : Made} {t′ b′ : List ℕ} → v ≡ taken → Agree (W (configAt n)) R S
       → topSlice (configAt n) R t ≡ topSlice (configAt n) R t₀ → bitSlice (configAt n) R b ≡ bitSlice (configAt n) R b₀
       → Makes v (configAt n) R t b r t′ b′ → InPlace n S t₀ b₀ r t′ b′
   settled v R S t b t₀ b₀ e h p q M =

@@ -8,7 +8,7 @@ use lib.ListN.{length, getD, take}
 use Rattle.sets.specs.Sets.{Agree, Set}
 use Rattle.sets.specs.Configurations.{Config, W, blocksFor, configAt, positionBits, windowBlocks}
 use Rattle.sets.specs.Filter.{Holds, isFilter, shown}
-use Rattle.sets.specs.Refusals.{taken, refused, verdict, answer, filterLent, filtersLent}
+use Rattle.sets.specs.Refusals.{taken, refused, verdict, filterLent, filtersLent}
 use Rattle.sets.proofs.Canon.{holds-canon}
 use Rattle.sets.proofs.Configurations.{line-at, whole-blocks}
 use Rattle.sets.proofs.Laws.{falls-low, members-length}

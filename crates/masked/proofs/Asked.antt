@@ -79,7 +79,7 @@ module _ (mask size : ℕ) {j : MaskAnswer} (e : j ≡ maskOf mask size) (q : j 
     block-kept S = repeated-kept mask size (mask-in .0) within l S
 
     module _ {n k : ℕ} (w : k ≡ n) where
-      order-asked : (F G S T : Set) → Agree k F S → Agree k G T → orderOf k block size F G ≡ orderOf n mask size S T
+      pub order-asked : (F G S T : Set) → Agree k F S → Agree k G T → orderOf k block size F G ≡ orderOf n mask size S T
       unfolding orderOf
       order-asked F G S T f g =
           ap (λ (R : Set). holder F (members R k)) (block-kept (apart F G))

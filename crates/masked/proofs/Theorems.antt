@@ -1,5 +1,5 @@
 -- Theorems about the functions that the two promises cite. Assumes nothing.
-use mathlib.Core.Path.{_≡_, refl, sym, ap, _∙_, subst}
+use mathlib.Core.Path.{_≡_, refl, sym, ap, ap₂, _∙_, subst}
 use mathlib.Core.Bool.{Bool, true, cond}
 use mathlib.Core.List.{List, [], _∷_, _++_}
 use Prim.Native.Nat.{ℕ, _^_, _≤_, _<_}
@@ -14,7 +14,7 @@ use Rattle.sets.specs.Refusals.{Verdict, taken, refused, verdict, answer, filte
 use Rattle.sets.proofs.Configurations.{number-at}
 use Rattle.sets.proofs.Keys.{equal-key, greater-key, key-greater, key-same, slots-fit}
 use Rattle.sets.proofs.Order.{opposite, order-same, order-swap}
-use Rattle.sets.proofs.Verdicts.{all-pass}
+use Rattle.sets.proofs.Verdicts.{after-taken, all-pass}
 use Rattle.sizes.specs.Sizes.{refusal}
 use Rattle.sizes.specs.declared.Refusal.{Refusal}
 use Rattle.judge.proofs.Passing.{lent-taken}
@@ -23,7 +23,7 @@ use Rattle.diff_count.specs.Making.{filterIn, recordIn, tallyOf}
 use Rattle.diff_count.specs.Calls.{shownBy}
 use Rattle.diff_count.specs.declared.Filter.{Filter}
 use Rattle.diff_count.proofs.OfSets.{Of, both-pass, of-passes, of-set, of-shown}
-use Rattle.masked.specs.Inner.{keyTold, orderTold}
+use Rattle.masked.specs.Inner.{keyTold, orderAnswer, orderTold}
 use Rattle.masked.specs.Calls.{cmpOf, cmpVerdict, keyFor, keyVerdict}
 use Rattle.masked.specs.declared.KeyAnswer.{KeyAnswer}
 use Rattle.masked.specs.declared.KeyAnswer.the-variants as keys
@@ -64,15 +64,23 @@ module _ (mask size : ℕ) (m : verdict (isMask mask size) ≡ taken) where
 
 -- ---- order and key of the filters of sets
 
+-- the order asked is that of the sets, or the mask's refusal
+pub cmp-asked : (f : Filter) (top bits : List ℕ) (g : Filter) (top2 bits2 : List ℕ) (S T : Set) → Of f top bits S → Of g top2 bits2 T → f .config ≡ g .config
+    → (mask size : ℕ) → cmpOf f top bits g top2 bits2 mask size ≡ orderAnswer (verdict (isMask mask size)) (orderOf (W (configAt (f .config))) mask size S T)
+unfolding cmpOf cmpVerdict
+cmp-asked f top bits g top2 bits2 S T x y e mask size =
+    ap₂ orderAnswer
+    (after-taken (inOrder 0 9 (filtersLent (recordIn f) top bits (recordIn g) top2 bits2)) (isMask mask size)
+    (both-pass f top bits g top2 bits2 (of-passes f top bits S x) (of-passes g top2 bits2 T y) e))
+    (order-same (W (configAt (f .config))) mask size (shownBy f top bits) (shownBy g top2 bits2) S T (of-shown f top bits S x)
+    (subst (λ (n : ℕ). Agree (W (configAt n)) (shownBy g top2 bits2) T) (sym e) (of-shown g top2 bits2 T y)))
+
 module _ (mask size : ℕ) (m : MaskFits mask size) where
-  -- the order asked is that of the sets
   pub cmp-sets : (f : Filter) (top bits : List ℕ) (g : Filter) (top2 bits2 : List ℕ) (S T : Set) → Of f top bits S → Of g top2 bits2 T → f .config ≡ g .config
       → cmpOf f top bits g top2 bits2 mask size ≡ orderTold (orderOf (W (configAt (f .config))) mask size S T)
   cmp-sets f top bits g top2 bits2 S T x y e =
-      cmp-passes mask size (mask-taken mask size m) f top bits g top2 bits2 (of-passes f top bits S x) (of-passes g top2 bits2 T y) e
-      ∙ ap orderTold
-      (order-same (W (configAt (f .config))) mask size (shownBy f top bits) (shownBy g top2 bits2) S T (of-shown f top bits S x)
-      (subst (λ (n : ℕ). Agree (W (configAt n)) (shownBy g top2 bits2) T) (sym e) (of-shown g top2 bits2 T y)))
+      cmp-asked f top bits g top2 bits2 S T x y e mask size
+      ∙ ap (λ (v : Verdict). orderAnswer v (orderOf (W (configAt (f .config))) mask size S T)) (mask-taken mask size m)
 
   -- the key asked is that of the set
   pub key-set : (f : Filter) (top bits : List ℕ) (S : Set) → Of f top bits S → keyFor f top bits mask size ≡ keys.Key (keyOf (configAt (f .config)) mask size S)

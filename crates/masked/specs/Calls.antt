@@ -8,11 +8,10 @@ use Rattle.sizes.specs.Sizes.{refusal}
 use Rattle.diff_count.specs.Making.{recordIn}
 use Rattle.diff_count.specs.Calls.{shownBy}
 use Rattle.diff_count.specs.declared.Filter.{Filter}
-use Rattle.masked.specs.Inner.{orderTold}
+use Rattle.masked.specs.Inner.{orderAnswer}
 use Rattle.masked.specs.declared.KeyAnswer.{KeyAnswer}
 use Rattle.masked.specs.declared.KeyAnswer.the-variants as keys
 use Rattle.masked.specs.declared.OrderAnswer.{OrderAnswer}
-use Rattle.masked.specs.declared.OrderAnswer.the-variants as orders
 
 unfoldable pub cmpVerdict : Filter → List ℕ → List ℕ → Filter → List ℕ → List ℕ → ℕ → ℕ → Verdict
 cmpVerdict f top bits g top2 bits2 mask size = verdict (filtersLent (recordIn f) top bits (recordIn g) top2 bits2 ++ isMask mask size)
@@ -20,8 +19,7 @@ cmpVerdict f top bits g top2 bits2 mask size = verdict (filtersLent (recordIn f)
 -- 01, "Order": the largest kept bucket held by exactly one filter decides
 unfoldable pub cmpOf : Filter → List ℕ → List ℕ → Filter → List ℕ → List ℕ → ℕ → ℕ → OrderAnswer
 cmpOf f top bits g top2 bits2 mask size =
-    answer (cmpVerdict f top bits g top2 bits2 mask size) (λ n. orders.Refused (refusal n))
-    (orderTold (orderOf (W (configAt (f .config))) mask size (shownBy f top bits) (shownBy g top2 bits2)))
+    orderAnswer (cmpVerdict f top bits g top2 bits2 mask size) (orderOf (W (configAt (f .config))) mask size (shownBy f top bits) (shownBy g top2 bits2))
 
 -- 10 is the last of the tests
 unfoldable pub keyVerdict : Filter → List ℕ → List ℕ → ℕ → ℕ → Verdict

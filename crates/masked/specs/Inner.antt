@@ -3,10 +3,13 @@ use mathlib.Core.Path.{_≡_}
 use mathlib.Core.Bool.{cond}
 use mathlib.Core.List.{List}
 use Prim.Native.Nat.{ℕ, suc, _*_, _/_, _%_, _^_, _<_}
+use lib.Bits.{bitAnd, bitXor}
+use lib.Dec.{ltb}
 use lib.ListN.{take}
 use Rattle.sets.specs.Sets.{Empty, Set, allBelow, apart}
 use Rattle.sets.specs.Words.{blockAt}
 use Rattle.sets.specs.Masks.{Ordering, less, equal, greater, kept, packed}
+use Rattle.sets.specs.Refusals.{Verdict, answer}
 use Rattle.sizes.specs.Sizes.{refusal}
 use Rattle.masked.specs.declared.Deciding.{Deciding}
 use Rattle.masked.specs.declared.Deciding.the-variants.{Block, Nothing}
@@ -33,6 +36,19 @@ abbrev pub orderTold : Ordering → OrderAnswer
 orderTold less = orders.Less
 orderTold equal = orders.Equal
 orderTold greater = orders.Greater
+
+-- The order that a deciding block tells. Of what the mask keeps there, each bucket is held by the first set or by the second; the
+-- part with the highest bucket is the larger number.
+unfoldable pub orderBy : ℕ → ℕ → Ordering
+orderBy keeps first = cond (ltb (bitXor keeps (bitAnd keeps first)) (bitAnd keeps first)) greater less
+
+abbrev pub decided : Deciding → OrderAnswer
+decided (Block keeps first) = orderTold (orderBy keeps first)
+decided Nothing = orders.Equal
+
+-- the order, or the refusal of the first test that fails
+abbrev pub orderAnswer : Verdict → Ordering → OrderAnswer
+orderAnswer v o = answer v (λ r. orders.Refused (refusal r)) (orderTold o)
 
 -- the key of the kept buckets ps, with so many bits to a slot; or one of those that the key looks at does not fit
 unfoldable pub keyTold : ℕ → List ℕ → KeyAnswer

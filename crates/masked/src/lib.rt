@@ -6,7 +6,7 @@ ghost use Rattle.sets.specs.Masks.{kept, largestMaskSize, orderOf};
 ghost use Rattle.bitchunks.specs.Walk.{Walks, filterSet};
 ghost use Rattle.bitchunks.specs.Mask.{Laid};
 ghost use Rattle.masked.specs.Calls.{cmpOf, keyFor};
-ghost use Rattle.masked.specs.Inner.{Decides, orderTold, keyTold};
+ghost use Rattle.masked.specs.Inner.{Decides, decided, orderTold, keyTold};
 use bitchunks::Cursors;
 use bitchunks::NextOne;
 use bitchunks::NextXor;
@@ -28,8 +28,8 @@ pub enum KeyAnswer {
     Refused(Refusal),
 }
 
-// What the mask keeps of the difference in the deciding block, and the first filter's block of that number; or nothing decides.
-enum Deciding {
+// What the mask keeps of the difference in the deciding block, and the first set's block of that number; or nothing decides.
+pub enum Deciding {
     Block(u64, u64),
     Nothing,
 }
@@ -74,7 +74,24 @@ fn deciding_block(
     }
 }
 
-// The order of two filters of k blocks: the holder of the deciding block's highest bucket is greater.
+// The order that a deciding block tells: of what the mask keeps there, the part with the highest bucket is the larger number.
+pub fn order_by(found: Deciding) -> OrderAnswer
+    ensures { λ r. ⌜ r ≡ decided found ⌝ }
+{
+    match found {
+        Deciding::Block(kept, first) => {
+            let held = kept & first;
+            let other = kept ^ held;
+            if other < held {
+                return OrderAnswer::Greater;
+            }
+            OrderAnswer::Less
+        }
+        Deciding::Nothing => OrderAnswer::Equal,
+    }
+}
+
+// The order of two filters of k blocks.
 fn order(
     top: &[u32],
     count: usize,
@@ -93,7 +110,7 @@ fn order(
     requires { ⌜ (1 ≤ size) × (size ≤ largestMaskSize) × Laid size «block_mask» ⌝ }
     ensures { λ r. ⌜ r ≡ orderTold (orderOf (64 * k) «block_mask» size (filterSet (now (top .entry)) count (now (blocks .entry)) n) (filterSet (now (top2 .entry)) count2 (now (blocks2 .entry)) n2)) ⌝ }
 {
-    match deciding_block(
+    order_by(deciding_block(
         top,
         count,
         blocks,
@@ -105,16 +122,7 @@ fn order(
         block_mask,
         size,
         k,
-    ) {
-        Deciding::Block(kept, first) => {
-            let bit = buckets::from_block_msb(kept);
-            if (first >> bit) % 2 == 1 {
-                return OrderAnswer::Greater;
-            }
-            OrderAnswer::Less
-        }
-        Deciding::Nothing => OrderAnswer::Equal,
-    }
+    ))
 }
 
 // The key of a filter of k blocks, with so many bits to a slot.

@@ -1,5 +1,6 @@
 -- What holds of every configuration, from laws over B, M and the entry width. Assumes nothing.
 use mathlib.Core.Path.{_≡_, refl, sym, ap, _∙_}
+use mathlib.Core.Logic.{_⊎_, inl, inr}
 use mathlib.Core.Bool.{Bool, true, false, true≢false, cond, _||_}
 use Prim.Native.Nat.{ℕ, _+_, _-_, _*_, _/_, _^_, _≤_, _<_}
 use native.Mathlib.Nat.{mul-div-cancel}
@@ -18,6 +19,7 @@ use Rattle.sets.specs.Configurations.{
   blocks,
   positionBits,
   windowBlocks,
+  longestRow,
   Sound,
 }
 
@@ -52,22 +54,27 @@ at-each P x y z n = go (eqb n 7) (eqb n 10) (eqb n 13)
     go false false true = z
     go false false false = x
 
--- a line that the laws hold for, whose buckets fit 32 bits and whose window has at least one block
+-- a line that the laws hold for, whose buckets and rows fit 32 bits and whose window has at least one block
 pub record Line (c : Config) : Type 0 where
   pub sound : Sound c
   pub small : W c ≤ 2 ^ 32
   pub window : 1 ≤ windowBlocks c
+  pub short : longestRow c ≤ 2 ^ 32
 
-line : (c : Config) → 1 ≤ c .M → 6 ≤ c .B → c .B + 7 ≤ 8 * c .entry → W c ≤ 2 ^ 32 → 1 ≤ windowBlocks c → Line c
-line c m b e w k = record { sound = record { some = m; wide = b; fits = e }; small = w; window = k }
+line : (c : Config) → 1 ≤ c .M → 6 ≤ c .B → c .B + 7 ≤ 8 * c .entry → W c ≤ 2 ^ 32 → 1 ≤ windowBlocks c → longestRow c ≤ 2 ^ 32 → Line c
+line c m b e w k r = record { sound = record { some = m; wide = b; fits = e }; small = w; window = k; short = r }
 
 pub line-at : (n : ℕ) → Line (configAt n)
 line-at n =
     at-each Line
-    (line seven (lit≤ tt) (lit≤ tt) (lit≤ tt) (lit≤ tt) (lit≤ tt))
-    (line ten (lit≤ tt) (lit≤ tt) (lit≤ tt) (lit≤ tt) (lit≤ tt))
-    (line thirteen (lit≤ tt) (lit≤ tt) (lit≤ tt) (lit≤ tt) (lit≤ tt))
+    (line seven (lit≤ tt) (lit≤ tt) (lit≤ tt) (lit≤ tt) (lit≤ tt) (lit≤ tt))
+    (line ten (lit≤ tt) (lit≤ tt) (lit≤ tt) (lit≤ tt) (lit≤ tt) (lit≤ tt))
+    (line thirteen (lit≤ tt) (lit≤ tt) (lit≤ tt) (lit≤ tt) (lit≤ tt) (lit≤ tt))
     n
+
+-- an entry of a row has 2 or 4 bytes
+pub entry-width : (n : ℕ) → (configAt n .entry ≡ 2) ⊎ (configAt n .entry ≡ 4)
+entry-width n = at-each (λ (c : Config). (c .entry ≡ 2) ⊎ (c .entry ≡ 4)) (inl refl) (inr refl) (inr refl) n
 
 -- a known number's line has that number
 pub number-at : (n : ℕ) → known n ≡ true → configAt n .number ≡ n

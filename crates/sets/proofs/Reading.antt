@@ -36,11 +36,11 @@ pub record Faultless (c : Config) (bs : List ℕ) : Type 0 where
   pub spare : (rowBoundary c bs ≡ 0 → ⊥) → getD bs (topBytes c) 0 ≡ spareByte (rowBoundary c bs)
   pub clear : Empty (held (rowBlocks c bs)) (rowBoundary c bs) (64 * rowBlockCount c bs)
 
-sound-cond : (b : Bool) (n : ℕ) → sound (cond b nowhere (place n)) ≡ b
+pub sound-cond : (b : Bool) (n : ℕ) → sound (cond b nowhere (place n)) ≡ b
 sound-cond true n = refl
 sound-cond false n = refl
 
-sound-then : (b : Bool) (f : Fault) (n : ℕ) → sound (cond b f (place n)) ≡ (b && sound f)
+pub sound-then : (b : Bool) (f : Fault) (n : ℕ) → sound (cond b f (place n)) ≡ (b && sound f)
 sound-then true f n = refl
 sound-then false f n = refl
 
@@ -55,7 +55,7 @@ falls-rising : (width at before : ℕ) (l : List ℕ) → Falls before l → sou
 falls-rising width at before [] f = refl
 falls-rising width at before (x ∷ xs) f = rw (lt-ltb x before (f .0)) (falls-rising width (at + width) x xs (f .1))
 
-lowest-none : (at : ℕ) (l : List ℕ) → sound (lowest at l) ≡ true → l ≡ []
+pub lowest-none : (at : ℕ) (l : List ℕ) → sound (lowest at l) ≡ true → l ≡ []
 lowest-none at [] h = refl
 lowest-none at (p ∷ []) h = absurd (true≢false (sym h))
 lowest-none at (p ∷ q ∷ ps) h = absurd (cons≢nil (lowest-none at (q ∷ ps) h))
@@ -175,16 +175,17 @@ module _ (c : Config) (s : Sound c) (S : Set) where
 
 -- ---- what passes is the row of the set that it shows
 
-module _ (c : Config) (s : Sound c) (bs : List ℕ) (b : Bytes bs) (F : Faultless c bs) where
-  entries-split : Split (c .M) (W c) (rowEntries c bs) (rowBoundary c bs)
-  unfolding rowEntries
-  entries-split =
-      record {
-        few = omega (arith, length-numbers (c .entry) (min (c .M) (length bs / c .entry)) bs);
-        falling = F .falling;
-        edgeIs = refl;
-      }
+-- its entries are a top list
+pub entries-split : (c : Config) (bs : List ℕ) → Faultless c bs → Split (c .M) (W c) (rowEntries c bs) (rowBoundary c bs)
+unfolding rowEntries
+entries-split c bs F =
+    record {
+      few = omega (arith, length-numbers (c .entry) (min (c .M) (length bs / c .entry)) bs);
+      falling = F .falling;
+      edgeIs = refl;
+    }
 
+module _ (c : Config) (s : Sound c) (bs : List ℕ) (b : Bytes bs) (F : Faultless c bs) where
   length-blocks : length (rowBlocks c bs) ≡ rowBlockCount c bs
   unfolding rowBlocks
   length-blocks = length-numbers 8 (rowBlockCount c bs) (drop (topBytes c + 1) bs)
@@ -206,7 +207,7 @@ module _ (c : Config) (s : Sound c) (bs : List ℕ) (b : Bytes bs) (F : Faultles
       ∙ word-same (below e (shownRow c bs)) R (64 * i) 64
       (λ j l.
       ap (λ (T : Set). below e T (64 * i + j)) (shown-row c bs)
-      ∙ sym (joined-bit (s .some) entries-split R (64 * rowBlockCount c bs) (F .clear) (64 * i + j) (omega arith)))
+      ∙ sym (joined-bit (s .some) (entries-split c bs F) R (64 * rowBlockCount c bs) (F .clear) (64 * i + j) (omega arith)))
       ∙ held-word (rowBlocks c bs) i (block-fits i (omega (arith, length-blocks))))
 
   written : row c (shownRow c bs) ≡ bytesOf (c .entry) (rowEntries c bs) ++ bitPart (rowBoundary c bs) (shownRow c bs)
@@ -214,8 +215,8 @@ module _ (c : Config) (s : Sound c) (bs : List ℕ) (b : Bytes bs) (F : Faultles
   written =
       let R : Set = held (rowBlocks c bs) in
       ap₂ (λ (l : List ℕ) (x : ℕ). bytesOf (c .entry) l ++ bitPart x (shownRow c bs))
-      (ap (topsOf c) (shown-row c bs) ∙ joined-top (s .some) entries-split R)
-      (ap (edgeOf c) (shown-row c bs) ∙ joined-edge (s .some) entries-split R)
+      (ap (topsOf c) (shown-row c bs) ∙ joined-top (s .some) (entries-split c bs F) R)
+      (ap (edgeOf c) (shown-row c bs) ∙ joined-edge (s .some) (entries-split c bs F) R)
 
   -- its entries are its first bytes
   entries-back : (n : ℕ) → min (c .M) (length bs / c .entry) ≡ n → n * c .entry ≤ length bs → bytesOf (c .entry) (rowEntries c bs) ≡ take (n * c .entry) bs

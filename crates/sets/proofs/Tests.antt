@@ -34,6 +34,12 @@ pub or-cases : (a b : Bool) → (a || b) ≡ true → (a ≡ true) ⊎ (b ≡ tr
 or-cases true b h = inl refl
 or-cases false b h = inr h
 
+-- two tests that pass together are one
+pub both-true : (a b : Bool) → (a ≡ true → b ≡ true) → (b ≡ true → a ≡ true) → a ≡ b
+both-true true b f g = sym (f refl)
+both-true false true f g = g refl
+both-true false false f g = refl
+
 pub same-eq : (xs ys : List ℕ) → same xs ys ≡ true → xs ≡ ys
 same-eq [] [] h = refl
 same-eq [] (y ∷ ys) h = absurd (true≢false (sym h))

@@ -30,6 +30,14 @@ after-refused (t ∷ ts) us {n} e = go (t .1) (after-refused ts us) e
     go true f e = f e
     go false f e = e
 
+-- last tests that pass change nothing
+pub before-taken : (ts us : List Test) → firstFailing us ≡ taken → firstFailing (ts ++ us) ≡ firstFailing ts
+before-taken ts us u = go (firstFailing ts) refl
+  where
+    go : (v : Verdict) → firstFailing ts ≡ v → firstFailing (ts ++ us) ≡ firstFailing ts
+    go taken h = after-taken ts us h ∙ u ∙ sym h
+    go (refused k) h = after-refused ts us h ∙ sym h
+
 -- tests that pass together pass apart
 pub all-pass : (ts us : List Test) → firstFailing (ts ++ us) ≡ taken → (firstFailing ts ≡ taken) × (firstFailing us ≡ taken)
 all-pass ts us e = go (firstFailing ts) refl

@@ -354,6 +354,25 @@ pub top-member : (S : Set) (i j : ℕ) → TopDigit (blockAt S i) j → (S (64 *
 top-member S i j t =
     (sym (digit-word S (64 * i) 64 j (t .small)) ∙ t .isSet, λ q l h. sym (digit-word S (64 * i) 64 q h) ∙ t .above q l)
 
+-- of two words the one that has the highest place in which either has one is greater
+pub word-less : (A B : Set) (from n j : ℕ) → j < n → A (from + j) ≡ true → B (from + j) ≡ false
+    → ((q : ℕ) → j < q → q < n → A (from + q) ≡ false) → ((q : ℕ) → j < q → q < n → B (from + q) ≡ false) → word B from n < word A from n
+unfolding word
+word-less A B from zero j l a b f g = absurd (omega arith)
+word-less A B from (suc n) j l a b f g = go (ℕ-discrete j n) (word-less A B from n j)
+  where
+    go : Dec (j ≡ n)
+        → (j < n → A (from + j) ≡ true → B (from + j) ≡ false → ((q : ℕ) → j < q → q < n → A (from + q) ≡ false) → ((q : ℕ) → j < q → q < n → B (from + q) ≡ false)
+        → word B from n < word A from n)
+        → word B from (suc n) < word A from (suc n)
+    go (yes e) h =
+        let x : A (from + n) ≡ true = ap (λ (q : ℕ). A (from + q)) (sym e) ∙ a in
+        let y : B (from + n) ≡ false = ap (λ (q : ℕ). B (from + q)) (sym e) ∙ b in
+        rw (x, y) (omega (arith, word-lt B from n))
+    go (no e) h =
+        let t : word B from n < word A from n = h (omega (arith, e)) a b (λ q u v. f q u (omega arith)) (λ q u v. g q u (omega arith)) in
+        rw (f n (omega (arith, e)) (omega arith), g n (omega (arith, e)) (omega arith)) (omega (arith, t))
+
 -- the set seen from a bucket on
 abbrev pub seen : ℕ → Set → Set
 seen from S j = S (from + j)
