@@ -1,0 +1,51 @@
+-- `judge_row::entries_fall` meets its contract: one turn of the loop for each entry. Assumes nothing.
+use mathlib.Core.Path.{refl}
+use Prim.Native.Nat.{_-_}
+use borrow.Author.Needs.{needs}
+use Rattle.bitchunks.proofs.Rows.{entry-room}
+use Rattle.judge_row.proofs.Entries.{Falling, fall-not, fall-turn, fall-end}
+use Rattle.judge_row.proofs.entries_fall.Statement.{statement}
+use Rattle.judge_row.proofs.entries_fall.Tie as tie
+
+abbrev Inv-loop : tie.InvT-loop
+Inv-loop row width count limit last₀ i₀ last i = Falling limit width count row last i
+
+abbrev μ-loop : tie.MeasureT-loop
+μ-loop row width count limit last₀ i₀ last i = count - i
+
+loop-holds : tie.Need-loop-holds Inv-loop μ-loop
+loop-holds c = (0, refl)
+
+row-entry-requires : tie.Need-row-entry-requires Inv-loop μ-loop
+row-entry-requires c κs = (c .before .before .before .pre .0, entry-room _ (c .loop-test .taken) (c .before .before .before .pre .1))
+
+returns : tie.Need-returns Inv-loop μ-loop
+returns c =
+    fall-not _ _ _ _ _ _ (c .before .before .before .loop .inv) (c .before .before .loop-test .taken) _ (c .before .row-entry .ensures) (c .if1 .taken)
+
+add-i : tie.Need-add-i Inv-loop μ-loop
+add-i c = search needs
+
+loop-less : tie.Need-loop-less Inv-loop μ-loop
+loop-less c = search needs
+
+loop-again : tie.Need-loop-again Inv-loop μ-loop
+loop-again c =
+    fall-turn _ _ _ _ _ _ (c .before .before .before .loop .inv) (c .before .before .loop-test .taken) _ (c .before .row-entry .ensures) (c .if1 .left)
+
+returns-2 : tie.Need-returns-2 Inv-loop μ-loop
+returns-2 c = fall-end _ _ _ _ _ _ (c .before .loop .inv) (c .loop-test .left)
+
+pub entries-fall-spec : {M : Type 1} → statement M
+entries-fall-spec =
+    tie.close
+    (tie.spec
+    Inv-loop
+    μ-loop
+    loop-holds
+    row-entry-requires
+    returns
+    add-i
+    loop-less
+    loop-again
+    returns-2)

@@ -1,0 +1,79 @@
+-- `judge_row::row` meets its contract: each test decides, in the order of judging. Assumes nothing.
+use Rattle.judge_row.proofs.Verdicts.{row-faulty, row-fits, row-listed, row-misfit, row-past, row-placed, row-unknown}
+use borrow.Author.Needs.{needs}
+use Rattle.judge_row.proofs.row.Statement.{statement}
+use Rattle.judge_row.proofs.row.Tie as tie
+
+sizes-of-requires : tie.Need-sizes-of-requires
+sizes-of-requires c κs = search needs
+
+enum-known-s : tie.Need-enum-known-s
+enum-known-s c = search needs
+
+length-fits-requires : tie.Need-length-fits-requires
+length-fits-requires c κs = row-listed _ (c .before .before .before .sizes-of .ensures) (c .before .s .given .1)
+
+returns : tie.Need-returns
+returns c =
+    row-misfit _ _ (c .before .before .before .before .before .sizes-of .ensures) (c .before .before .before .s .given .1) (c .before .length-fits .ensures) (c .if1 .taken)
+
+layout-of-requires : tie.Need-layout-of-requires
+layout-of-requires c κs = row-listed _ (c .before .before .before .before .before .sizes-of .ensures) (c .before .before .before .s .given .1)
+
+entries-fit-requires : tie.Need-entries-fit-requires
+entries-fit-requires c κs =
+    let s = c .before .before .before .before in
+    let p = row-placed _ (s .before .before .before .before .args .row .now) (s .before .before .sizes-of .ensures) (s .s .given .1) (c .layout-of .ensures) in
+    (p .width, p .entriesIn)
+
+returns-2 : tie.Need-returns-2
+returns-2 c =
+    let l = c .before .before in
+    let s = l .before .before .before .before in
+    row-past _ _ (s .before .before .sizes-of .ensures) (s .s .given .1) (l .layout-of .ensures)
+    (l .before .before .length-fits .ensures) (l .before .if1 .left) (c .before .entries-fit .ensures) (c .if2 .taken)
+
+is-faultless-requires : tie.Need-is-faultless-requires
+is-faultless-requires c κs =
+    let l = c .before .before in
+    let s = l .before .before .before .before in
+    (row-listed _ (s .before .before .sizes-of .ensures) (s .s .given .1), l .layout-of .ensures)
+
+returns-3 : tie.Need-returns-3
+returns-3 c =
+    let l = c .before .before .before .before in
+    let s = l .before .before .before .before in
+    row-faulty _ _ (s .before .before .sizes-of .ensures) (s .s .given .1) (l .layout-of .ensures)
+    (l .before .before .length-fits .ensures) (l .before .if1 .left) (c .before .before .before .entries-fit .ensures) (c .before .before .if2 .left)
+    (c .before .is-faultless .ensures) (c .if3 .taken)
+
+enum-known-r : tie.Need-enum-known-r
+enum-known-r c = search needs
+
+returns-4 : tie.Need-returns-4
+returns-4 c =
+    let l = c .before .before .before .before in
+    let s = l .before .before .before .before in
+    row-fits _ _ (s .before .before .sizes-of .ensures) (s .s .given .1) (l .layout-of .ensures)
+    (l .before .before .length-fits .ensures) (l .before .if1 .left) (c .before .before .before .entries-fit .ensures) (c .before .before .if2 .left)
+    (c .before .is-faultless .ensures) (c .if3 .left)
+
+returns-5 : tie.Need-returns-5
+returns-5 c = row-unknown _ _ (c .before .before .before .sizes-of .ensures) (c .before .r .given .1)
+
+pub row-spec : {M : Type 1} → statement M
+row-spec =
+    tie.close
+    (tie.spec
+    sizes-of-requires
+    enum-known-s
+    length-fits-requires
+    returns
+    layout-of-requires
+    entries-fit-requires
+    returns-2
+    is-faultless-requires
+    returns-3
+    enum-known-r
+    returns-4
+    returns-5)
