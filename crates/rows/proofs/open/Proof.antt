@@ -1,0 +1,52 @@
+-- `rows::open` meets its contract: the entries of the row and the bits set in it are counted. Assumes nothing.
+use native.Mathlib.Omega.{arith}
+use Rattle.judge_row.proofs.Verdicts.{fits-few, fits-room}
+use Rattle.rows.proofs.Opening.{open-refused, open-size}
+use borrow.Author.Needs.{needs}
+use Rattle.rows.proofs.open.Statement.{statement}
+use Rattle.rows.proofs.open.Tie as tie
+
+row-requires : tie.Need-row-requires
+row-requires c κs = search needs
+
+enum-known-layout : tie.Need-enum-known-layout
+enum-known-layout c = search needs
+
+count-ones-in-bytes-requires : tie.Need-count-ones-in-bytes-requires
+count-ones-in-bytes-requires c κs =
+    let l = c .before in
+    let s = l .before .before .before .before in
+    fits-room (s .args .config) (s .args .row .now) (l .before .before .row .ensures) (l .layout .given .1)
+
+add-t8 : tie.Need-add-t8
+add-t8 c =
+    let l = c .before .before .before in
+    let s = l .before .before .before .before in
+    omega (arith, fits-few (s .args .config) (s .args .row .now) (l .before .before .row .ensures) (l .layout .given .1) (c .before .count-ones-in-bytes .ensures))
+
+enum-known-r : tie.Need-enum-known-r
+enum-known-r c = search needs
+
+returns : tie.Need-returns
+returns c =
+    let l = c .before .before .before in
+    let s = l .before .before .before .before in
+    open-size (s .args .config) (s .args .row .now) (l .before .before .row .ensures) (l .layout .given .1) (c .before .count-ones-in-bytes .ensures)
+
+returns-2 : tie.Need-returns-2
+returns-2 c =
+    let r = c .before in
+    let s = r .before .before .before .before in
+    open-refused (s .args .config) (s .args .row .now) (r .before .before .row .ensures) (r .r .given .1)
+
+pub open-spec : {M : Type 1} → statement M
+open-spec =
+    tie.close
+    (tie.spec
+    row-requires
+    enum-known-layout
+    count-ones-in-bytes-requires
+    add-t8
+    enum-known-r
+    returns
+    returns-2)
