@@ -1,0 +1,71 @@
+-- `row_order::deciding_block` meets its contract: in the blocks passed the mask keeps no difference. Assumes nothing.
+use native.Mathlib.Omega.{arith}
+use borrow.Author.Needs.{needs}
+use Rattle.bitchunks.specs.Rows.{entries, rowSet}
+use Rattle.masked.proofs.Differing.{Differing, differ-start, differ-step, differ-turn, differ-end, differ-none}
+use Rattle.row_order.proofs.deciding_block.Statement.{statement}
+use Rattle.row_order.proofs.deciding_block.Tie as tie
+
+abbrev Inv-loop : tie.InvT-loop
+Inv-loop first layout second layout2 mask size k at₀ at =
+    Differing (rowSet layout first) (rowSet layout2 second) mask size (entries layout first) (entries layout2 second) k (at .passed) (at .passed2) (at .end)
+
+abbrev μ-loop : tie.MeasureT-loop
+μ-loop first layout second layout2 mask size k at₀ at = at .end
+
+loop-holds : tie.Need-loop-holds Inv-loop μ-loop
+loop-holds c =
+    let s = c .before .before in
+    differ-start _ _ _ _ (s .pre .0 .1) (s .pre .1 .0 .1)
+
+next-row-xor-chunk-requires : tie.Need-next-row-xor-chunk-requires Inv-loop μ-loop
+next-row-xor-chunk-requires c κs = search needs
+
+enum-known-block : tie.Need-enum-known-block Inv-loop μ-loop
+enum-known-block c = search needs
+
+turn-mask-requires : tie.Need-turn-mask-requires Inv-loop μ-loop
+turn-mask-requires c κs =
+    let k = c .before in
+    let s = k .before .before .before .before .before .before in
+    let x = differ-step (k .before .before .before .loop .inv) (k .block .given .1) (k .before .before .next-row-xor-chunk .ensures) in
+    (s .pre .1 .1 .0, s .pre .1 .1 .1, s .pre .1 .1 .2, omega (arith, x .ahead .small))
+
+loop-less : tie.Need-loop-less Inv-loop μ-loop
+loop-less c =
+    let k = c .before .before .before in
+    differ-step (k .before .before .before .loop .inv) (k .block .given .1) (k .before .before .next-row-xor-chunk .ensures) .under
+
+loop-again : tie.Need-loop-again Inv-loop μ-loop
+loop-again c =
+    let k = c .before .before .before in
+    differ-turn (k .before .before .before .loop .inv) (k .block .given .1) (k .before .before .next-row-xor-chunk .ensures) (c .before .turn-mask .ensures) (c .if1 .left)
+
+enum-told : tie.Need-enum-told Inv-loop μ-loop
+enum-told c = search needs
+
+returns : tie.Need-returns Inv-loop μ-loop
+returns c =
+    let k = c .before .before .before in
+    differ-end (k .before .before .before .loop .inv) (k .block .given .1) (k .before .before .next-row-xor-chunk .ensures) (c .before .turn-mask .ensures) (c .if1 .taken)
+
+returns-2 : tie.Need-returns-2 Inv-loop μ-loop
+returns-2 c =
+    let k = c .before .before in
+    differ-none (k .before .loop .inv) (c .enum-told .given .1) (k .next-row-xor-chunk .ensures)
+
+pub deciding-block-spec : {M : Type 1} → statement M
+deciding-block-spec =
+    tie.close
+    (tie.spec
+    Inv-loop
+    μ-loop
+    loop-holds
+    next-row-xor-chunk-requires
+    enum-known-block
+    turn-mask-requires
+    loop-less
+    loop-again
+    enum-told
+    returns
+    returns-2)
