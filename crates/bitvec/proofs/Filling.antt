@@ -86,7 +86,7 @@ zero-end a {b} {old} h t = fill-end h t ∙ sym (zeroed-filled a b old)
 -- ---- what stands in cells so written
 
 module _ (cells : List ℕ) (n : ℕ) (old : List ℕ) (e : length cells ≡ n) where
-  filled-at : (i : ℕ) → i < n → getD (filled cells n old) i 0 ≡ getD cells i 0
+  pub filled-at : (i : ℕ) → i < n → getD (filled cells n old) i 0 ≡ getD cells i 0
   filled-at i h = List·getD-append cells (drop n old) 0 i (omega arith)
 
   pub filled-rest : drop n (filled cells n old) ≡ drop n old
@@ -139,7 +139,7 @@ module _ (a b : ℕ) (l : List ℕ) (h : a ≤ b) (n : b ≤ length l) where
       ∙ List·getD-append (take a l) (replicate (b - a) 0) 0 i (omega (arith, length-take-le a l (omega arith)))
       ∙ getD-take a l i 0 k
 
-  zeroed-zero : (i : ℕ) → a ≤ i → i < b → getD (zeroed a b l) i 0 ≡ 0
+  pub zeroed-zero : (i : ℕ) → a ≤ i → i < b → getD (zeroed a b l) i 0 ≡ 0
   zeroed-zero i j k =
       let e : i ≡ length (take a l) + (i - a) = omega (arith, length-take-le a l (omega arith)) in
       zeroed-at i k

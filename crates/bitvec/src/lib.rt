@@ -266,7 +266,7 @@ pub fn fold(top: &[u32], count: usize, blocks: &mut [u64], k: usize)
 }
 
 // Takes the largest buckets out of the first n blocks into the top cells, m at most, and says how many.
-fn lift(top: &mut [u32], blocks: &mut [u64], m: usize, n: usize) -> usize
+pub fn lift(top: &mut [u32], blocks: &mut [u64], m: usize, n: usize) -> usize
     requires { ⌜ Room m n (now top) (now blocks) ⌝ }
     ensures { λ r. ⌜ Lifted m n (now (top .entry)) (now (blocks .entry)) (now (top .exit)) (now (blocks .exit)) r ⌝ }
 {

@@ -283,7 +283,8 @@ module _ (n : ℕ) (t : Tally) (top bits : List ℕ) (o : ℕ) (u : Tally) (top2
       after1 : Verdict
       after1 = cond (roomy (sizesAt n) (length top) (length bits)) (cond (roomy (sizesAt o) (length top2) (length bits2)) after3 (refused 3)) (refused 3)
 
-abbrev short : Verdict → Bool → Bool → Verdict
+-- two tests of number 3 before the rest
+abbrev pub short : Verdict → Bool → Bool → Verdict
 short v a b = cond a (cond b v (refused 3)) (refused 3)
 
 -- without a third: its areas are asked for again where the first's stand, and that changes nothing

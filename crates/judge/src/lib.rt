@@ -66,7 +66,7 @@ fn top_fits(top: &[u32], count: usize, m: usize, limit: usize) -> bool
 }
 
 // Whether no bit of the first k blocks stands at or above the boundary.
-fn bits_fit(blocks: &[u64], boundary: usize, k: usize) -> bool
+pub fn bits_fit(blocks: &[u64], boundary: usize, k: usize) -> bool
     requires { ⌜ k ≤ length (now blocks) ⌝ }
     ensures { λ r. ⌜ Tells r (Empty (held (now (blocks .entry))) boundary (64 * k)) ⌝ }
 {

@@ -1,10 +1,10 @@
 -- 01, "The filter of a set". Of a set of the buckets below n that keeps m of them in its top list; then by configuration.
 use mathlib.Core.Bool.{Bool, cond, _&&_, _||_}
-use mathlib.Core.List.{List, _++_}
+use mathlib.Core.List.{List, [], _∷_, _++_}
 use mathlib.Core.Path.{_≡_}
 use Prim.Native.Nat.{ℕ, _-_, _+_, _*_, min}
 use lib.Dec.{eqb, leb}
-use lib.ListN.{length, getD, take, drop}
+use lib.ListN.{length, getD, take, drop, replicate}
 use Rattle.sets.specs.Sets.{Set, flips, below, onward, members, among, allBelow, same, tabulate}
 use Rattle.sets.specs.Words.{blockAt, held}
 use Rattle.sets.specs.Configurations.{Config, W, blocks, windowBlocks, blocksFor}
@@ -88,7 +88,7 @@ limitedBound m n window S = cond (leb (limitedCount m n window S) m) 0 (64 * low
 -- ---- the builder
 
 -- 01: "Builder: a starting split from 0 to W, pending buckets (area of 2M), bits below the split. Pushing a list flips like toggling".
--- Its set: the buckets pending flip the set that the bits hold, so that doubles cancel.
+-- Its set: the buckets pending flip the set that the bits hold, so that doubles cancel. Ask it below W: a slice may be longer than its area.
 abbrev pub builderSet : List ℕ → List ℕ → ℕ → Set
 builderSet pending bits count = flips (take count pending) (held bits)
 
@@ -101,6 +101,24 @@ isBuilder m n pending bits count split =
     && (leb split n
     && (eqb (length (members (onward split (held bits)) n)) 0
     && allBelow 1 (drop count (take (2 * m) pending)))))
+
+-- 01: "the split rises by 2^B, never past W": by any number of levels, and to W where less than the last is left
+abbrev pub Rises : ℕ → ℕ → ℕ → ℕ → Type 0
+Rises level limit from to = (t : ℕ) × (to ≡ min limit (from + t * level))
+
+-- how many of the buckets listed are at or above a split
+abbrev pub atOrAbove : ℕ → List ℕ → ℕ
+atOrAbove split [] = 0
+atOrAbove split (b ∷ bs) = cond (leb split b) 1 0 + atOrAbove split bs
+
+-- 01: "Making the empty filter, or a builder, zeroes its areas." A slice lent for an area of n cells, once that is zeroed
+abbrev pub cleared : ℕ → List ℕ → List ℕ
+cleared n old = filled (replicate n 0) n old
+
+pub record BuilderRecord : Type 0 where
+  pub config : ℕ
+  pub split : ℕ
+  pub count : ℕ
 
 -- ---- by configuration
 

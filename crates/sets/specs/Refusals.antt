@@ -1,12 +1,12 @@
 -- 01, "Numbers a call may refuse with". A call names its tests; the order of judging stands here, once.
 use mathlib.Core.Bool.{Bool, cond}
 use mathlib.Core.List.{List, [], _∷_, _++_}
-use Prim.Native.Nat.{ℕ, zero, suc}
+use Prim.Native.Nat.{ℕ, zero, suc, _*_}
 use lib.Dec.{eqb, leb}
 use lib.ListN.{length}
 use Rattle.sets.specs.Sets.{Set, allBelow}
 use Rattle.sets.specs.Configurations.{Config, W, blocks, known, configAt}
-use Rattle.sets.specs.Filter.{FilterRecord, isFilter, isBuilder}
+use Rattle.sets.specs.Filter.{FilterRecord, BuilderRecord, isFilter, isBuilder}
 use Rattle.sets.specs.Masks.{sizeFits, maskFits, slotsFit}
 use Rattle.sets.specs.Row.{lengthFits, entriesFit, sound, fallFault, countFault, spareFault, highFault}
 
@@ -106,8 +106,8 @@ holdsRow written slice = (buffer, leb (length written) (length slice))
 abbrev pub areFilter : Config → FilterRecord → List ℕ → List ℕ → Test
 areFilter c r top bits = (soundness, isFilter (c .M) (blocks c) top bits (r .count) (r .boundary))
 
-abbrev pub areBuilder : Config → List ℕ → List ℕ → ℕ → ℕ → Test
-areBuilder c pending bits count split = (soundness, isBuilder (c .M) (W c) pending bits count split)
+abbrev pub areBuilder : Config → BuilderRecord → List ℕ → List ℕ → Test
+areBuilder c r pending bits = (soundness, isBuilder (c .M) (W c) pending bits (r .count) (r .split))
 
 -- 9: "two filters have different configurations"
 abbrev pub areAlike : ℕ → ℕ → Test
@@ -145,3 +145,11 @@ filterLent r top bits = areasLent (r .config) (length top) (length bits) ++ (are
 -- 1, 3, 8 and 9: two filters
 abbrev pub filtersLent : FilterRecord → List ℕ → List ℕ → FilterRecord → List ℕ → List ℕ → List Test
 filtersLent r top bits o top2 bits2 = filterLent r top bits ++ (filterLent o top2 bits2 ++ (areAlike (r .config) (o .config) ∷ []))
+
+-- 1 and 3: two slices of so many cells, to hold a builder: "pending buckets (area of 2M), bits"
+abbrev pub builderAreas : ℕ → ℕ → ℕ → List Test
+builderAreas n pending bits = isKnown n ∷ holdsArea (2 * configAt n .M) pending ∷ holdsArea (blocks (configAt n)) bits ∷ []
+
+-- 1, 3 and 8: a builder
+abbrev pub builderLent : BuilderRecord → List ℕ → List ℕ → List Test
+builderLent r pending bits = builderAreas (r .config) (length pending) (length bits) ++ (areBuilder (configAt (r .config)) r pending bits ∷ [])
