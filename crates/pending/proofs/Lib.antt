@@ -1,0 +1,5 @@
+pub mod Settling
+pub mod Compacting
+pub mod Moving
+pub mod Pushing
+pub mod Sound

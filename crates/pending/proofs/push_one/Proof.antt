@@ -1,0 +1,65 @@
+-- `pending::push_one` meets its contract: the bit flips, or the bucket is stored, in a compacted area if need be. Assumes nothing.
+use Rattle.pending.proofs.Pushing.{push-low, push-high, push-full}
+use borrow.Author.Needs.{needs}
+use Rattle.pending.proofs.push_one.Statement.{statement}
+use Rattle.pending.proofs.push_one.Tie as tie
+
+toggle-requires : tie.Need-toggle-requires
+toggle-requires c κs = search needs
+
+same-length : tie.Need-same-length
+same-length c = search needs
+
+returns : tie.Need-returns
+returns c =
+    let s = c .before .before .before .before .before .before .before .before in
+    push-low (s .pre .0) (s .pre .1 .0) _ (s .pre .1 .1 .2) _ _ (c .before .before .before .before .if1 .taken) (c .before .before .toggle .ensures)
+
+mul-if2 : tie.Need-mul-if2
+mul-if2 c = search needs
+
+store-requires : tie.Need-store-requires
+store-requires c κs = search needs
+
+same-length-2 : tie.Need-same-length-2
+same-length-2 c = search needs
+
+returns-2 : tie.Need-returns-2
+returns-2 c =
+    let s = c .before .before .before .before .before .before .before .before .before .before in
+    push-high (s .pre .0) (s .pre .1 .0) _ (s .pre .1 .1 .2) _ _ _ (c .before .before .before .before .before .before .if1 .left) (c .before .before .before .before .if2 .taken) (c .before .before .store .ensures)
+
+compact-requires : tie.Need-compact-requires
+compact-requires c κs = search needs
+
+store-requires-2 : tie.Need-store-requires-2
+store-requires-2 c κs = search needs
+
+same-length-3 : tie.Need-same-length-3
+same-length-3 c = search needs
+
+same-length-4 : tie.Need-same-length-4
+same-length-4 c = search needs
+
+returns-3 : tie.Need-returns-3
+returns-3 c =
+    let k = c .before .before .before .before .before .before .before .before in
+    let s = k .before .before .before .before .before .before .before .before .before in
+    push-full (s .pre .0) _ (s .pre .1 .1 .2) _ _ (k .before .before .before .before .before .if1 .left) (k .before .before .before .if2 .left) (k .compact .ensures) (c .before .before .store2 .ensures)
+
+pub push-one-spec : {M : Type 1} → statement M
+push-one-spec =
+    tie.close
+    (tie.spec
+    toggle-requires
+    same-length
+    returns
+    mul-if2
+    store-requires
+    same-length-2
+    returns-2
+    compact-requires
+    store-requires-2
+    same-length-3
+    same-length-4
+    returns-3)
