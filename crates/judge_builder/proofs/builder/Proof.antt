@@ -1,0 +1,53 @@
+-- `judge_builder::builder` meets its contract: the areas are judged before the builder in them. Assumes nothing.
+use mathlib.Core.Path.{sym, _∙_}
+use mathlib.Core.Bool.{true, false}
+use borrow.Author.Tests.{not-true, not-false}
+use Rattle.judge_builder.proofs.Verdicts.{areas-room, builder-no-areas, builder-rest}
+use borrow.Author.Needs.{needs}
+use Rattle.judge_builder.proofs.builder.Statement.{statement}
+use Rattle.judge_builder.proofs.builder.Tie as tie
+
+areas-requires : tie.Need-areas-requires
+areas-requires c κs = search needs
+
+enum-known-s : tie.Need-enum-known-s
+enum-known-s c = search needs
+
+is-builder-requires : tie.Need-is-builder-requires
+is-builder-requires c κs =
+    let a = c .before .before .before .before .before .before .args in
+    areas-room (a .config) (a .pending .now) (a .bits .now) (c .before .s .given .0 .0) (sym (c .before .before .before .areas .ensures) ∙ c .before .s .given .1)
+
+returns : tie.Need-returns
+returns c =
+    let a = c .before .before .before .before .before .before .before .before .args in
+    let k = c .before .before .before in
+    builder-rest (a .config) (a .stage) (a .pending .now) (a .bits .now) (k .s .given .0 .0) (sym (k .before .before .areas .ensures) ∙ k .s .given .1)
+    false (sym (not-true (c .before .is-builder .result) (c .if1 .taken)) ∙ c .before .is-builder .ensures)
+
+enum-known-r : tie.Need-enum-known-r
+enum-known-r c = search needs
+
+returns-2 : tie.Need-returns-2
+returns-2 c =
+    let a = c .before .before .before .before .before .before .before .before .args in
+    let k = c .before .before .before in
+    builder-rest (a .config) (a .stage) (a .pending .now) (a .bits .now) (k .s .given .0 .0) (sym (k .before .before .areas .ensures) ∙ k .s .given .1)
+    true (sym (not-false (c .before .is-builder .result) (c .if1 .left)) ∙ c .before .is-builder .ensures)
+
+returns-3 : tie.Need-returns-3
+returns-3 c =
+    let a = c .before .before .before .before .before .before .args in
+    builder-no-areas (a .config) (a .stage) (a .pending .now) (a .bits .now) (c .before .r .given .0 .0) (sym (c .before .before .before .areas .ensures) ∙ c .before .r .given .1)
+
+pub builder-spec : {M : Type 1} → statement M
+builder-spec =
+    tie.close
+    (tie.spec
+    areas-requires
+    enum-known-s
+    is-builder-requires
+    returns
+    enum-known-r
+    returns-2
+    returns-3)

@@ -1,0 +1,82 @@
+-- `judge_builder::is_builder` meets its contract: each return's test is a part of test 8. Assumes nothing.
+use mathlib.Core.Path.{sym}
+use native.Mathlib.Omega.{arith}
+use lib.Seq.{length-take-le}
+use borrow.Author.Tests.{not-true, not-false}
+use Rattle.judge_builder.proofs.Soundness.{unsound, past-range, by-bits}
+use borrow.Author.Needs.{needs}
+use Rattle.judge_builder.proofs.is_builder.Statement.{statement}
+use Rattle.judge_builder.proofs.is_builder.Tie as tie
+
+mul-if1 : tie.Need-mul-if1
+mul-if1 c = search needs
+
+returns : tie.Need-returns
+returns c =
+    let a = c .before .before .before .args in
+    unsound (a .m) (a .k) (a .pending .now) (a .bits .now) (a .stage) (λ S. omega (arith, c .if1 .taken, S .few))
+
+mul-if2 : tie.Need-mul-if2
+mul-if2 c = search needs
+
+returns-2 : tie.Need-returns-2
+returns-2 c =
+    let a = c .before .before .before .before .before .args in
+    unsound (a .m) (a .k) (a .pending .now) (a .bits .now) (a .stage) (λ S. omega (arith, c .if2 .taken, S .low))
+
+slice-aggregate-all-below : tie.Need-slice-aggregate-all-below
+slice-aggregate-all-below c =
+    let s = c .before .before .before .before .before .before in
+    sym (length-take-le (s .args .stage .count) (s .args .pending .now) (omega (arith, s .pre .cells)))
+
+mul-all-below : tie.Need-mul-all-below
+mul-all-below c = search needs
+
+all-below-requires : tie.Need-all-below-requires
+all-below-requires c κs = search needs
+
+returns-3 : tie.Need-returns-3
+returns-3 c =
+    let a = c .before .before .before .before .before .before .before .before .args in
+    let r = c .before .all-below in
+    past-range (a .m) (a .k) (a .pending .now) (a .bits .now) (a .stage) (r .result) (r .ensures) (not-true (r .result) (c .if3 .taken))
+
+mul-or-cells : tie.Need-mul-or-cells
+mul-or-cells c = search needs
+
+or-cells-requires : tie.Need-or-cells-requires
+or-cells-requires c κs = search needs
+
+returns-4 : tie.Need-returns-4
+returns-4 c =
+    let a = c .before .before .before .before .before .before .before .before .before .before .args in
+    unsound (a .m) (a .k) (a .pending .now) (a .bits .now) (a .stage) (λ S. c .if4 .taken (c .before .or-cells .ensures .1 (S .unused)))
+
+bits-fit-requires : tie.Need-bits-fit-requires
+bits-fit-requires c κs = search needs
+
+returns-5 : tie.Need-returns-5
+returns-5 c =
+    let a = c .before .before .before .before .before .before .before .before .before .before .before .args in
+    let r = c .before .before .before .before .all-below in
+    by-bits (a .m) (a .k) (a .pending .now) (a .bits .now) (a .stage) (r .result) (r .ensures) (not-false (r .result) (c .before .before .before .if3 .left))
+    (c .before .before .before .before .before .before .before .before .if1 .left) (c .before .before .before .before .before .before .if2 .left)
+    (c .before .before .or-cells .ensures .0 (c .before .if4 .left)) (c .bits-fit .result) (c .bits-fit .ensures)
+
+pub is-builder-spec : {M : Type 1} → statement M
+is-builder-spec =
+    tie.close
+    (tie.spec
+    mul-if1
+    returns
+    mul-if2
+    returns-2
+    slice-aggregate-all-below
+    mul-all-below
+    all-below-requires
+    returns-3
+    mul-or-cells
+    or-cells-requires
+    returns-4
+    bits-fit-requires
+    returns-5)
