@@ -1,0 +1,46 @@
+-- `builder::Builder::raise` meets its contract: judged, then the higher of two splits. Assumes nothing.
+use mathlib.Core.Path.{sym, _∙_}
+use native.Mathlib.Omega.{arith}
+use Rattle.builder.proofs.Outcomes.{raise-refused, raise-past, raise-next}
+use borrow.Author.Needs.{needs}
+use Rattle.builder.proofs.Builder.raise.Statement.{statement}
+use Rattle.builder.proofs.Builder.raise.Tie as tie
+
+builder-requires : tie.Need-builder-requires
+builder-requires c κs = search needs
+
+enum-known-s : tie.Need-enum-known-s
+enum-known-s c = search needs
+
+returns : tie.Need-returns
+returns c =
+    let k = c .before .before .before in
+    let a = k .before .before .before .before .before .args in
+    raise-past (a .self) (a .pending .now) (a .bits .now) (a .to) (k .s .given .0 .0) (sym (k .before .before .builder .ensures) ∙ k .s .given .1) (c .if1 .taken)
+
+enum-known-r : tie.Need-enum-known-r
+enum-known-r c = search needs
+
+returns-2 : tie.Need-returns-2
+returns-2 c =
+    let k = c .before .before .before .before in
+    let a = k .before .before .before .before .before .args in
+    raise-next (a .self) (a .pending .now) (a .bits .now) (a .to) (k .s .given .0 .0) (sym (k .before .before .builder .ensures) ∙ k .s .given .1) (a .to)
+    (c .before .if1 .left) (omega (arith, c .if2 .taken))
+
+returns-3 : tie.Need-returns-3
+returns-3 c =
+    let k = c .before .before .before .before in
+    let a = k .before .before .before .before .before .args in
+    raise-next (a .self) (a .pending .now) (a .bits .now) (a .to) (k .s .given .0 .0) (sym (k .before .before .builder .ensures) ∙ k .s .given .1) (a .self .split)
+    (c .before .if1 .left) (omega (arith, c .if2 .left))
+
+returns-4 : tie.Need-returns-4
+returns-4 c =
+    let a = c .before .before .before .before .before .before .args in
+    raise-refused (a .self) (a .pending .now) (a .bits .now) (a .to) (c .before .r .given .0 .0) (sym (c .before .before .before .builder .ensures) ∙ c .before .r .given .1)
+
+pub raise-spec : {M : Type 1} → statement M
+raise-spec =
+    tie.close
+    (tie.spec builder-requires enum-known-s returns enum-known-r returns-2 returns-3 returns-4)

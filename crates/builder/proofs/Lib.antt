@@ -1,0 +1,4 @@
+pub mod Finishing
+pub mod Outcomes
+pub mod Once
+pub mod Steps

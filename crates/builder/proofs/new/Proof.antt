@@ -1,0 +1,73 @@
+-- `builder::new` meets its contract: judged, then zeroed. Assumes nothing.
+use mathlib.Core.Path.{sym, _∙_}
+use native.Mathlib.Omega.{arith}
+use Rattle.builder.proofs.Outcomes.{new-refused, new-past, new-asks, new-next}
+use borrow.Author.Needs.{needs}
+use Rattle.builder.proofs.new.Statement.{statement}
+use Rattle.builder.proofs.new.Tie as tie
+
+areas-requires : tie.Need-areas-requires
+areas-requires c κs = search needs
+
+enum-known-s : tie.Need-enum-known-s
+enum-known-s c = search needs
+
+returns : tie.Need-returns
+returns c =
+    let k = c .before .before .before in
+    let a = k .before .before .before .before .before .args in
+    new-past (a .config) (a .split) (a .pending .now) (a .bits .now) (k .s .given .0 .0) (sym (k .before .before .areas .ensures) ∙ k .s .given .1) (c .if1 .taken)
+
+mul-zero-cells : tie.Need-mul-zero-cells
+mul-zero-cells c =
+    let k = c .before .before .before .before .before in
+    let a = k .before .before .before .before .before .args in
+    omega (arith, new-asks (a .config) (a .split) (a .pending .now) (a .bits .now) (k .s .given .0 .0) (sym (k .before .before .areas .ensures) ∙ k .s .given .1) .0)
+
+zero-cells-requires : tie.Need-zero-cells-requires
+zero-cells-requires c κs =
+    let k = c .before .before .before .before .before in
+    let a = k .before .before .before .before .before .args in
+    (omega arith, new-asks (a .config) (a .split) (a .pending .now) (a .bits .now) (k .s .given .0 .0) (sym (k .before .before .areas .ensures) ∙ k .s .given .1) .0)
+
+zero-blocks-requires : tie.Need-zero-blocks-requires
+zero-blocks-requires c κs =
+    let k = c .before .before .before .before .before .before .before .before .before in
+    let a = k .before .before .before .before .before .args in
+    (omega arith, new-asks (a .config) (a .split) (a .pending .now) (a .bits .now) (k .s .given .0 .0) (sym (k .before .before .areas .ensures) ∙ k .s .given .1) .1)
+
+enum-known-r : tie.Need-enum-known-r
+enum-known-r c = search needs
+
+same-length : tie.Need-same-length
+same-length c = search needs
+
+same-length-2 : tie.Need-same-length-2
+same-length-2 c = search needs
+
+returns-2 : tie.Need-returns-2
+returns-2 c =
+    let k = c .before .before .before .before .before .before .before .before .before .before .before .before in
+    let a = k .before .before .before .before .before .args in
+    new-next (a .config) (a .split) (a .pending .now) (a .bits .now) (k .s .given .0 .0) (sym (k .before .before .areas .ensures) ∙ k .s .given .1) (c .before .before .before .before .before .before .before .before .before .if1 .left) (c .before .before .before .before .before .before .zero-cells .ensures) (c .before .before .zero-blocks .ensures)
+
+returns-3 : tie.Need-returns-3
+returns-3 c =
+    let a = c .before .before .before .before .before .before .args in
+    new-refused (a .config) (a .split) (a .pending .now) (a .bits .now) (c .before .r .given .0 .0) (sym (c .before .before .before .areas .ensures) ∙ c .before .r .given .1)
+
+pub new-spec : {M : Type 1} → statement M
+new-spec =
+    tie.close
+    (tie.spec
+    areas-requires
+    enum-known-s
+    returns
+    mul-zero-cells
+    zero-cells-requires
+    zero-blocks-requires
+    enum-known-r
+    same-length
+    same-length-2
+    returns-2
+    returns-3)
