@@ -1,20 +1,18 @@
 -- Theorems about the promises of the calls that make a filter. Assumes nothing.
-use mathlib.Core.Path.{_≡_, refl, sym, ap, ap₂, _∙_, subst, subst₂, fun-ext}
+use mathlib.Core.Path.{_≡_, refl, sym, ap, ap₂, _∙_, subst, subst₂}
 use mathlib.Core.Bool.{true}
-use mathlib.Core.List.{List, [], _∷_, _++_}
+use mathlib.Core.List.{List, [], _∷_}
 use Prim.Native.Nat.{ℕ, _≤_}
 use borrow.Author.Tests.{le-leb}
 use lib.Dec.{leb}
 use lib.ListN.{length}
-use Rattle.sets.specs.Sets.{Agree, Set, allBelow, apart, differ, flips, none, odd, times}
+use Rattle.sets.specs.Sets.{Agree, Set, allBelow, apart, differ, flips, none}
 use Rattle.sets.specs.Configurations.{Config, W, blocks, known, configAt}
 use Rattle.sets.specs.Filter.{FilterRecord, filled, recordOf, topSlice, bitSlice}
 use Rattle.sets.specs.Refusals.{Verdict, taken, filterLent, areBuckets}
 use Rattle.sets.proofs.Areas.{Stands, filter-agree, stands-slices, shown-back, top-again, bits-again}
 use Rattle.sets.proofs.Configurations.{line-at, number-at}
 use Rattle.sets.proofs.Filters.{flips-agree}
-use Rattle.sets.proofs.Laws.{differ-comm, flips-odd, odd-append, odd-order}
-use Rattle.sets.proofs.Tests.{below-first, below-second}
 use Rattle.sets.proofs.Verdicts.{after-taken}
 use Rattle.judge.proofs.Passing.{all-taken, lent-taken, stands-pass}
 use Rattle.diff_count.specs.Making.{Makes, filterIn, recordIn}
@@ -137,44 +135,3 @@ module _ (n : ℕ) (k : known n ≡ true) where
           let R : Set = apart (shownBy (stored S) T B) (shownBy (stored Q) T₂ B₂) in
           settled (differenceVerdict (stored S) T B (stored Q) T₂ B₂ to toBits) R (apart S Q) to toBits to toBits (difference-passes to toBits L)
           (λ p l. ap₂ differ (shows S t₀ b₀ p l) (shows Q t₁ b₁ p l)) refl refl N
-
--- ---- however a filter is made of listed buckets
-
--- From the empty filter, by toggling, and by symmetric difference of two that were made so, in whatever order and grouping. A call is
--- known by its promise alone, and works on the record that was answered last and on the slices as they were left; `Way n bs t₀ b₀ r t b`:
--- of the buckets bs, in slices that held t₀ and b₀, ending with the answer r and the slices t and b.
-pub data Way (n : ℕ) : List ℕ → List ℕ → List ℕ → Made → List ℕ → List ℕ → Type 0 where
-  emptied : {t₀ b₀ t b : List ℕ} {r : Made} → Lent n t₀ b₀ → Empties n t₀ b₀ r t b → Way n [] t₀ b₀ r t b
-  toggled : {bs t₀ b₀ t b t′ b′ : List ℕ} {f : Filter} {r : Made} (cs : List ℕ) → Way n bs t₀ b₀ (Ready f) t b → Toggles f t b cs r t′ b′ → Way n (bs ++ cs) t₀ b₀ r t′ b′
-  differed : {bs cs t₀ b₀ t b t₁ b₁ t₂ b₂ to toBits t′ b′ : List ℕ} {f g : Filter} {r : Made}
-      → Way n bs t₀ b₀ (Ready f) t b → Way n cs t₁ b₁ (Ready g) t₂ b₂ → Lent n to toBits → Differs f t b g t₂ b₂ to toBits r t′ b′
-      → Way n (bs ++ cs) to toBits r t′ b′
-
-odd-flips : (bs cs : List ℕ) → flips cs (odd bs) ≡ odd (bs ++ cs)
-odd-flips bs cs = flips-odd cs (odd bs) ∙ fun-ext (λ p. differ-comm (odd cs p) (odd bs p) ∙ sym (odd-append bs cs p))
-
-odd-apart : (bs cs : List ℕ) → apart (odd bs) (odd cs) ≡ odd (bs ++ cs)
-odd-apart bs cs = fun-ext (λ p. sym (odd-append bs cs p))
-
--- No call is refused, and record and slices are those of the buckets listed an odd number of times.
-pub every-way : {n : ℕ} {bs t₀ b₀ t b : List ℕ} {r : Made} → known n ≡ true → allBelow (W (configAt n)) bs ≡ true → Way n bs t₀ b₀ r t b → InPlace n (odd bs) t₀ b₀ r t b
-every-way {n} k w (emptied L M) = empty-step n k _ _ L M
-every-way {n} {t₀ = t₀} {b₀} {t} {b} {r} k w (toggled {bs} cs X M) =
-    subst (λ (S : Set). InPlace n S t₀ b₀ r t b) (odd-flips bs cs)
-    (toggle-step n k (odd bs) t₀ b₀ cs (below-second (W (configAt n)) bs cs w) (every-way k (below-first (W (configAt n)) bs cs w) X) M)
-every-way {n} {t₀ = t₀} {b₀} {t} {b} {r} k w (differed {bs} {cs} {t₀ = u} {b₀ = a} {t₁ = u₁} {b₁ = a₁} X Y L M) =
-    subst (λ (S : Set). InPlace n S t₀ b₀ r t b) (odd-apart bs cs)
-    (difference-step n k (odd bs) u a (odd cs) u₁ a₁ t₀ b₀ L (every-way k (below-first (W (configAt n)) bs cs w) X) (every-way k (below-second (W (configAt n)) bs cs w) Y) M)
-
--- So neither the order of the buckets nor that of the calls matters: where each bucket is listed as often, answer and slices are the same.
-pub any-order : {n : ℕ} {bs cs t₀ b₀ t b t′ b′ : List ℕ} {r r′ : Made} → known n ≡ true
-    → allBelow (W (configAt n)) bs ≡ true → allBelow (W (configAt n)) cs ≡ true → ((p : ℕ) → times bs p ≡ times cs p)
-    → Way n bs t₀ b₀ r t b → Way n cs t₀ b₀ r′ t′ b′ → (r ≡ r′) × (t ≡ t′) × (b ≡ b′)
-any-order {n} {bs} {cs} {t₀} {b₀} k v w e X Y =
-    let o : odd bs ≡ odd cs = odd-order bs cs e in
-    let P = every-way k v X in
-    let Q = every-way k w Y in (
-      P .answers ∙ ap (λ (S : Set). Ready (filterIn (recordOf (configAt n) S))) o ∙ sym (Q .answers),
-      P .tops ∙ ap (λ (S : Set). topSlice (configAt n) S t₀) o ∙ sym (Q .tops),
-      P .blocks ∙ ap (λ (S : Set). bitSlice (configAt n) S b₀) o ∙ sym (Q .blocks),
-    )

@@ -1,0 +1,1 @@
+// Theorems over all calls stand in proofs/. No code belongs to them.
