@@ -180,11 +180,21 @@ fn limited_is(last: u32, count: usize, bound: usize) -> bool {
 
 // ---- masks
 
-fn key_of(f: Filter, top: &[u32], blocks: &[u64]) -> u64 {
-    match masked::masked_sort_key(f, top, blocks, 1, 1) {
-        KeyAnswer::Key(k) => k,
-        KeyAnswer::Refused(_) => 0,
-    }
+fn same_key(
+    a: Filter,
+    top: &[u32],
+    blocks: &[u64],
+    b: Filter,
+    top2: &[u32],
+    blocks2: &[u64],
+) -> bool {
+    let KeyAnswer::Key(k) = masked::masked_sort_key(a, top, blocks, 1, 1) else {
+        return false;
+    };
+    let KeyAnswer::Key(l) = masked::masked_sort_key(b, top2, blocks2, 1, 1) else {
+        return false;
+    };
+    k == l
 }
 
 fn equal_keys_decide_nothing() -> bool {
@@ -198,7 +208,7 @@ fn equal_keys_decide_nothing() -> bool {
     let Made::Ready(b) = filter_of(&mut top2, &mut blocks2, &[5, 0]) else {
         return false;
     };
-    let alike = key_of(a, &top, &blocks) == key_of(b, &top2, &blocks2);
+    let alike = same_key(a, &top, &blocks, b, &top2, &blocks2);
     match masked::cmp_masked(a, &top, &blocks, b, &top2, &blocks2, 1, 1) {
         OrderAnswer::Less => alike,
         OrderAnswer::Equal => false,
@@ -214,15 +224,18 @@ fn fifth_bucket_in_the_low_byte(fifth: u32, low: u64) -> bool {
     let Made::Ready(f) = filter_of(&mut top, &mut blocks, &list) else {
         return false;
     };
-    key_of(f, &top, &blocks) % 256 == low
+    match masked::masked_sort_key(f, &top, &blocks, 1, 1) {
+        KeyAnswer::Key(k) => k % 256 == low,
+        KeyAnswer::Refused(_) => false,
+    }
 }
 
-// The number with which a mask is refused, 0 where it is taken.
+// The number with which a mask is refused, 0 where it is taken, 255 where no filter was made.
 fn mask_refusal(mask: u64, size: usize) -> u8 {
     let mut top = [0u32; 12];
     let mut blocks = [0u64; 130];
     let Made::Ready(f) = diff_count::empty(7, &mut top, &mut blocks) else {
-        return 0;
+        return 255;
     };
     match masked::masked_sort_key(f, &top, &blocks, mask, size) {
         KeyAnswer::Key(_) => 0,
