@@ -48,12 +48,12 @@ mask-taken mask size m = rw (le-leb 1 size (m .0), le-leb size largestMaskSize (
 -- ---- where no test fails
 
 module _ (mask size : ℕ) (m : verdict (isMask mask size) ≡ taken) where
-  cmp-passes : (f : Filter) (top bits : List ℕ) (g : Filter) (top2 bits2 : List ℕ) → Passes (f .config) (tallyOf f) top bits → Passes (g .config) (tallyOf g) top2 bits2
+  pub cmp-passes : (f : Filter) (top bits : List ℕ) (g : Filter) (top2 bits2 : List ℕ) → Passes (f .config) (tallyOf f) top bits → Passes (g .config) (tallyOf g) top2 bits2
       → f .config ≡ g .config
       → cmpOf f top bits g top2 bits2 mask size ≡ orderTold (orderOf (W (configAt (f .config))) mask size (shownBy f top bits) (shownBy g top2 bits2))
   cmp-passes f top bits g top2 bits2 p q e = sym (cmp-taken f top bits g top2 bits2 mask size (both-pass f top bits g top2 bits2 p q e) m)
 
-  key-passes : (f : Filter) (top bits : List ℕ) → Passes (f .config) (tallyOf f) top bits
+  pub key-passes : (f : Filter) (top bits : List ℕ) → Passes (f .config) (tallyOf f) top bits
       → keyFor f top bits mask size ≡ keys.Key (keyOf (configAt (f .config)) mask size (shownBy f top bits))
   unfolding keyOf keyTold slotsFit
   key-passes f top bits p =

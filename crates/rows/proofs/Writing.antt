@@ -28,7 +28,7 @@ use Rattle.sizes.specs.declared.Sizes.{Sizes}
 use Rattle.sizes.specs.declared.Refusal.{Refusal}
 use Rattle.sizes.specs.declared.SizesAnswer.{SizesAnswer}
 use Rattle.sizes.specs.declared.SizesAnswer.the-variants as sizes
-use Rattle.unaligned.proofs.Little.{sets-append}
+use Rattle.sets.proofs.Lists.{sets-append}
 use Rattle.judge.specs.Judging.{filterOf}
 use Rattle.judge.proofs.Verdicts.{filter-told, refuses, takes}
 use Rattle.diff_count.specs.Making.{recordIn, tallyOf}

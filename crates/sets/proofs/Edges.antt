@@ -18,7 +18,7 @@ use Rattle.sets.specs.Row.{
   spareFault,
   highFault,
 }
-use Rattle.sets.specs.Text.{configLine, maskLine, rowLine, overlap, compared, judgedRows, judgedInput, compareText}
+use Rattle.sets.specs.Text.{configLine, maskLine, rowLine, overlap, compared, judgedSecond, judgedRows, judgedMasked, judgedInput, compareText}
 use Rattle.sets.specs.Edges.{down, holds, each, figures, cases, traps}
 
 pub figures-hold : T (each figures)
@@ -30,5 +30,5 @@ unfolding members from digit word held low limitedCount limitedBound packed keyO
 cases-hold = tt
 
 pub traps-hold : T (each traps)
-unfolding members from digit word held configAt isBuilder low limitedCount limitedBound orderOf packed keyOf bitPart row rowEntries rowBlocks shownRow lengthFits entriesFit fallFault countFault spareFault highFault configLine maskLine rowLine overlap compared judgedRows judgedInput compareText down holds each traps
+unfolding members from digit word held configAt isBuilder low limitedCount limitedBound orderOf packed keyOf bitPart row rowEntries rowBlocks shownRow lengthFits entriesFit fallFault countFault spareFault highFault configLine maskLine rowLine overlap compared judgedSecond judgedRows judgedMasked judgedInput compareText down holds each traps
 traps-hold = tt

@@ -196,20 +196,23 @@ abbrev pub nothingFollows : {A : Type 0} → List ℕ → A → Judged A
 nothingFollows [] a = is a
 nothingFollows (b ∷ bs) a = malformed 5
 
+-- after the first row, whose set is S
+unfoldable pub judgedSecond : Config → Mask → Set → List ℕ → Judged (List ℕ)
+judgedSecond c m S bs =
+    atLine 4 (cutAt newline bs) (λ fourth tail.
+    andThen (rowLine c 4 fourth) (λ second. nothingFollows tail (compared c m S (shownRow c second))))
+
+-- after the mask
 unfoldable pub judgedRows : Config → Mask → List ℕ → Judged (List ℕ)
 judgedRows c m bs =
-    atLine 3 (cutAt newline bs) (λ third rest.
-    andThen (rowLine c 3 third) (λ first.
-    atLine 4 (cutAt newline rest) (λ fourth tail.
-    andThen (rowLine c 4 fourth) (λ second.
-    nothingFollows tail (compared c m (shownRow c first) (shownRow c second))))))
+    atLine 3 (cutAt newline bs) (λ third rest. andThen (rowLine c 3 third) (λ first. judgedSecond c m (shownRow c first) rest))
+
+-- after the configuration
+unfoldable pub judgedMasked : Config → List ℕ → Judged (List ℕ)
+judgedMasked c bs = atLine 2 (cutAt newline bs) (λ second rest. andThen (maskLine second) (λ m. judgedRows c m rest))
 
 unfoldable pub judgedInput : List ℕ → Judged (List ℕ)
-judgedInput bs =
-    atLine 1 (cutAt newline bs) (λ first rest.
-    andThen (configLine first) (λ n.
-    atLine 2 (cutAt newline rest) (λ second tail.
-    andThen (maskLine second) (λ m. judgedRows (configAt n) m tail))))
+judgedInput bs = atLine 1 (cutAt newline bs) (λ first rest. andThen (configLine first) (λ n. judgedMasked (configAt n) rest))
 
 -- 01: "A refusal is one line, `refused N L`: number and input line."
 abbrev pub printed : Judged (List ℕ) → List ℕ

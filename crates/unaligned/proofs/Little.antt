@@ -2,13 +2,14 @@
 use mathlib.Core.Path.{_≡_, sym, ap, _∙_}
 use mathlib.Core.List.{List, [], _∷_, _++_}
 use Prim.Native.Nat.{ℕ, zero, suc, _+_, _*_, _/_, _%_, _^_, _≤_, _<_}
-use native.Mathlib.Nat.{add-zero, zero-add, suc-add, mul-assoc, div-one}
+use native.Mathlib.Nat.{zero-add, suc-add, mul-assoc, div-one}
 use native.Mathlib.Omega.{arith}
-use lib.ListN.{length, getD, take, drop, set, length-drop}
+use lib.ListN.{length, getD, take, drop, length-drop}
 use lib.Pow.{pow-add, field, mod-mod-pow, shr-shr}
 use lib.Seq.{sets, take-add, drop-drop, drop-cons, length-take-le}
 use Rattle.sets.specs.Row.{bytes, little}
 use Rattle.sets.proofs.Bytes.{length-bytes}
+use Rattle.sets.proofs.Lists.{sets-append}
 
 -- ---- read
 
@@ -37,12 +38,6 @@ bytes-split (suc w) u v =
     let e : 8 * suc w ≡ 8 * w + 8 = omega arith in
     let f : 8 * suc w ≡ 8 + 8 * w = omega arith in
     rw (suc-add w u, e, mod-mod-pow v (8 * w) 8, field v (8 * w) 8, ← e, f, ← shr-shr v 8 (8 * w)) (ap (_∷_ (v % 256)) (bytes-split w u (v / 256)))
-
-pub sets-append : (l : List ℕ) (at : ℕ) (xs ys : List ℕ) → sets l at (xs ++ ys) ≡ sets (sets l at xs) (at + length xs) ys
-sets-append l at [] ys = rw add-zero
-sets-append l at (x ∷ xs) ys =
-    let e : suc at + length xs ≡ at + suc (length xs) = omega arith in
-    sets-append (set l at x) (suc at) xs ys ∙ ap (λ (k : ℕ). sets (sets (set l at x) (suc at) xs) k ys) e
 
 pub sets-split : (w u v at : ℕ) (l : List ℕ) → sets (sets l at (bytes w (v % 2 ^ (8 * w)))) (at + w) (bytes u (v / 2 ^ (8 * w))) ≡ sets l at (bytes (w + u) v)
 sets-split w u v at l =

@@ -9,7 +9,7 @@ use lib.ListN.{length, getD, take, drop}
 use lib.Seq.{sets, length-sets, drop-drop, length-take-le}
 use Rattle.sets.specs.Row.{bytes, bytesOf, little, numbers}
 use Rattle.sets.proofs.Bytes.{length-bytesOf}
-use Rattle.unaligned.proofs.Little.{sets-append}
+use Rattle.sets.proofs.Lists.{sets-append}
 
 numbers-suc : (w n : ℕ) (bs : List ℕ) → numbers w (suc n) bs ≡ numbers w n bs ++ (little (take w (drop (n * w) bs)) ∷ [])
 numbers-suc w zero bs = rw zero-mul
