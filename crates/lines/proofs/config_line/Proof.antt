@@ -1,0 +1,70 @@
+-- `lines::config_line` meets its contract: each path by its law. Assumes nothing.
+use mathlib.Core.Path.{sym, _∙_}
+use borrow.Author.Needs.{needs}
+use borrow.Author.Tests.{not-false, not-true}
+use Rattle.lines.proofs.Paths.{bare, config-long, config-told, no-config}
+use Rattle.lines.proofs.config_line.Statement.{statement}
+use Rattle.lines.proofs.config_line.Tie as tie
+
+slice-aggregate-equals : tie.Need-slice-aggregate-equals
+slice-aggregate-equals c = search needs
+
+equals-requires : tie.Need-equals-requires
+equals-requires c κs = search needs
+
+returns : tie.Need-returns
+returns c =
+    let k = c .before in
+    bare (k .before .before .before .args .line .now) (sym (c .if1 .taken) ∙ k .equals .ensures)
+
+slice-aggregate-starts-with : tie.Need-slice-aggregate-starts-with
+slice-aggregate-starts-with c = search needs
+
+starts-with-requires : tie.Need-starts-with-requires
+starts-with-requires c κs = search needs
+
+returns-2 : tie.Need-returns-2
+returns-2 c =
+    let k = c .before in
+    let e = k .before .before in
+    no-config (e .before .before .before .before .args .line .now) (sym (e .if1 .left) ∙ e .before .equals .ensures) (k .starts-with .ensures)
+    (not-true (k .starts-with .result) (c .if2 .taken))
+
+sub-numbered : tie.Need-sub-numbered
+sub-numbered c =
+    let k = c .before in
+    let e = k .before .before in
+    config-long (e .before .before .before .before .args .line .now) (sym (e .if1 .left) ∙ e .before .equals .ensures) (k .starts-with .ensures)
+    (not-false (k .starts-with .result) (c .if2 .left))
+
+part-numbered-start : tie.Need-part-numbered-start
+part-numbered-start c = sub-numbered c
+
+part-numbered-end : tie.Need-part-numbered-end
+part-numbered-end c = search needs
+
+numbered-requires : tie.Need-numbered-requires
+numbered-requires c κs = search needs
+
+returns-3 : tie.Need-returns-3
+returns-3 c =
+    let k = c .before .before .before in
+    let e = k .before .before in
+    config-told (e .before .before .before .before .args .line .now) (sym (e .if1 .left) ∙ e .before .equals .ensures) (k .starts-with .ensures)
+    (not-false (k .starts-with .result) (c .before .before .if2 .left)) (c .numbered .ensures)
+
+pub config-line-spec : {M : Type 1} → statement M
+config-line-spec =
+    tie.close
+    (tie.spec
+    slice-aggregate-equals
+    equals-requires
+    returns
+    slice-aggregate-starts-with
+    starts-with-requires
+    returns-2
+    sub-numbered
+    part-numbered-start
+    part-numbered-end
+    numbered-requires
+    returns-3)

@@ -1,0 +1,70 @@
+-- `lines::row_line` meets its contract: the bytes that the line spells are read as a row. Assumes nothing.
+use mathlib.Core.Path.{sym}
+use lib.Seq.{length-take-le}
+use borrow.Author.Needs.{needs}
+use Rattle.lines.proofs.Paths.{no-hex, row-in, row-told}
+use Rattle.lines.proofs.row_line.Statement.{statement}
+use Rattle.lines.proofs.row_line.Tie as tie
+
+slice-aggregate-from-hex : tie.Need-slice-aggregate-from-hex
+slice-aggregate-from-hex c = search needs
+
+from-hex-requires : tie.Need-from-hex-requires
+from-hex-requires c κs = search needs
+
+enum-known-n : tie.Need-enum-known-n
+enum-known-n c = search needs
+
+array-share-prefix-row : tie.Need-array-share-prefix-row
+array-share-prefix-row c =
+    let k = c .before .before .before .before in
+    row-in (k .before .before .before .before .before .args .line .now) (k .from-hex .last .1 .0) (k .from-hex .ensures) (c .before .n .given .1)
+
+slice-aggregate-read : tie.Need-slice-aggregate-read
+slice-aggregate-read c =
+    let k = c .before .before .before .before .before in
+    sym (length-take-le (c .before .before .n .given .0 .0) (k .from-hex .last .1 .0) (array-share-prefix-row (c .before)))
+
+read-requires : tie.Need-read-requires
+read-requires c κs = search needs
+
+enum-told : tie.Need-enum-told
+enum-told c = search needs
+
+same-length : tie.Need-same-length
+same-length c = search needs
+
+same-length-2 : tie.Need-same-length-2
+same-length-2 c = search needs
+
+returns : tie.Need-returns
+returns c =
+    let r = c .before .before .before .before in
+    let i = r .before .before .before .before .before in
+    let k = i .before .before .before in
+    let s = k .before .before .before .before .before in
+    row-told (s .args .line .now) (k .from-hex .last .1 .0) (k .from-hex .ensures) (s .args .config) (s .args .top .now) (s .args .blocks .now)
+    (i .n .given .1) (s .pre .1) (r .read .ensures)
+
+returns-2 : tie.Need-returns-2
+returns-2 c =
+    let k = c .before .before .before in
+    let s = k .before .before .before .before .before in
+    no-hex (s .args .line .now) (k .from-hex .last .1 .0) (k .from-hex .ensures) (s .args .config) (s .args .top .now) (s .args .blocks .now)
+    (c .enum-told .given .1)
+
+pub row-line-spec : {M : Type 1} → statement M
+row-line-spec =
+    tie.close
+    (tie.spec
+    slice-aggregate-from-hex
+    from-hex-requires
+    enum-known-n
+    array-share-prefix-row
+    slice-aggregate-read
+    read-requires
+    enum-told
+    same-length
+    same-length-2
+    returns
+    returns-2)

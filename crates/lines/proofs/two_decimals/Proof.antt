@@ -1,0 +1,119 @@
+-- `lines::two_decimals` meets its contract: each path by its law. Assumes nothing.
+use mathlib.Core.Path.{sym}
+use Prim.Native.Nat.{_<_}
+use native.Mathlib.Omega.{arith}
+use lib.ListN.{length}
+use lib.Seq.{length-take-le}
+use borrow.Author.Needs.{needs}
+use Rattle.lines.proofs.Paths.{before-end, no-mask, no-size, no-space, two-told}
+use Rattle.lines.proofs.two_decimals.Statement.{statement}
+use Rattle.lines.proofs.two_decimals.Tie as tie
+
+find-requires : tie.Need-find-requires
+find-requires c κs = search needs
+
+enum-known-end : tie.Need-enum-known-end
+enum-known-end c = search needs
+
+enum-told : tie.Need-enum-told
+enum-told c = search needs
+
+returns : tie.Need-returns
+returns c =
+    let k = c .before .before in
+    no-space (k .before .before .args .text .now) (k .find .ensures) (c .enum-told .given .1)
+
+-- the space stands in the text
+end-in : (c : tie.After-end) → c .end .given .0 .0 < length (c .before .before .before .before .args .text .now)
+end-in c =
+    let k = c .before .before in
+    before-end (k .before .before .args .text .now) (k .find .ensures) (c .end .given .1)
+
+slice-aggregate-decimal : tie.Need-slice-aggregate-decimal
+slice-aggregate-decimal c =
+    let e = c .before .before in
+    sym (length-take-le (e .end .given .0 .0) (e .before .before .before .before .args .text .now) (omega (arith, end-in e)))
+
+decimal-requires : tie.Need-decimal-requires
+decimal-requires c κs = search needs
+
+enum-known-mask : tie.Need-enum-known-mask
+enum-known-mask c = search needs
+
+enum-told-2 : tie.Need-enum-told-2
+enum-told-2 c = search needs
+
+returns-2 : tie.Need-returns-2
+returns-2 c =
+    let d = c .before .before in
+    let e = d .before .before .before in
+    let k = e .before .before in
+    no-mask (k .before .before .args .text .now) (k .find .ensures) (e .end .given .1) (d .decimal .ensures) (c .enum-told2 .given .1)
+
+add-next : tie.Need-add-next
+add-next c = omega (arith, end-in (c .before .before .before .before .before .before))
+
+sub-decimal : tie.Need-sub-decimal
+sub-decimal c = omega (arith, end-in (c .before .before .before .before .before .before))
+
+part-decimal-start : tie.Need-part-decimal-start
+part-decimal-start c = sub-decimal c
+
+part-decimal-end : tie.Need-part-decimal-end
+part-decimal-end c = search needs
+
+decimal-requires-2 : tie.Need-decimal-requires-2
+decimal-requires-2 c κs = search needs
+
+enum-known-size : tie.Need-enum-known-size
+enum-known-size c = search needs
+
+judged-mask-requires : tie.Need-judged-mask-requires
+judged-mask-requires c κs = search needs
+
+enum-told-3 : tie.Need-enum-told-3
+enum-told-3 c = search needs
+
+returns-3 : tie.Need-returns-3
+returns-3 c =
+    let b = c .before .before .before .before in
+    let m = b .before .before .before in
+    let d = m .before .before in
+    let e = d .before .before .before in
+    let k = e .before .before in
+    two-told (k .before .before .args .text .now) (k .find .ensures) (e .end .given .1) (d .decimal .ensures) (m .mask .given .1) (b .decimal2 .ensures)
+    (c .before .before .size .given .1) (c .judged-mask .ensures)
+
+returns-4 : tie.Need-returns-4
+returns-4 c =
+    let b = c .before .before in
+    let m = b .before .before .before in
+    let d = m .before .before in
+    let e = d .before .before .before in
+    let k = e .before .before in
+    no-size (k .before .before .args .text .now) (k .find .ensures) (e .end .given .1) (d .decimal .ensures) (m .mask .given .1) (b .decimal2 .ensures)
+    (c .enum-told3 .given .1)
+
+pub two-decimals-spec : {M : Type 1} → statement M
+two-decimals-spec =
+    tie.close
+    (tie.spec
+    find-requires
+    enum-known-end
+    enum-told
+    returns
+    slice-aggregate-decimal
+    decimal-requires
+    enum-known-mask
+    enum-told-2
+    returns-2
+    add-next
+    sub-decimal
+    part-decimal-start
+    part-decimal-end
+    decimal-requires-2
+    enum-known-size
+    judged-mask-requires
+    enum-told-3
+    returns-3
+    returns-4)
