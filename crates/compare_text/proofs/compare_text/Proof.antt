@@ -1,0 +1,62 @@
+-- `compare_text::compare_text` meets its contract: the text of the answer is made in an array, and copied where there is room. Assumes nothing.
+use mathlib.Core.Path.{sym}
+use Prim.Native.Nat.{_≤_}
+use native.Mathlib.Omega.{arith}
+use lib.ListN.{length}
+use lib.Seq.{length-take-le}
+use denote.Ref.{now}
+use borrow.Author.Needs.{needs}
+use Rattle.compare_text.proofs.Answering.{copied, too-short}
+use Rattle.compare_text.proofs.compare_text.Statement.{statement}
+use Rattle.compare_text.proofs.compare_text.Tie as tie
+
+slice-aggregate-put-judged : tie.Need-slice-aggregate-put-judged
+slice-aggregate-put-judged c = search needs
+
+judged-input-requires : tie.Need-judged-input-requires
+judged-input-requires c κs = search needs
+
+put-judged-requires : tie.Need-put-judged-requires
+put-judged-requires c κs = search needs
+
+returns : tie.Need-returns
+returns c =
+    let p = c .before .before in
+    let a = p .before .before .before .before .before .args in
+    too-short (now (a .input)) (now (a .out)) (p .before .judged-input .ensures) (p .put-judged .ensures) (omega arith) (c .if1 .taken)
+
+array-share-prefix-text : tie.Need-array-share-prefix-text
+array-share-prefix-text c = search needs
+
+-- the text is no longer than the array
+part-in : (c : tie.After-text3) → c .before .before .before .before .put-judged .result ≤ length (c .before .before .before .before .put-judged .last .0)
+part-in c = omega arith
+
+slice-aggregate-put : tie.Need-slice-aggregate-put
+slice-aggregate-put c = sym (length-take-le _ _ (part-in c))
+
+put-requires : tie.Need-put-requires
+put-requires c κs = omega (arith, slice-aggregate-put c)
+
+same-length : tie.Need-same-length
+same-length c = search needs
+
+returns-2 : tie.Need-returns-2
+returns-2 c =
+    let p = c .before .before .before .before .before .before .before in
+    let a = p .before .before .before .before .before .args in
+    copied (now (a .input)) (now (a .out)) (p .before .judged-input .ensures) (p .put-judged .ensures) (omega arith) (c .before .before .before .before .before .if1 .left) (c .before .before .put .ensures)
+
+pub compare-text-spec : {M : Type 1} → statement M
+compare-text-spec =
+    tie.close
+    (tie.spec
+    slice-aggregate-put-judged
+    judged-input-requires
+    put-judged-requires
+    returns
+    array-share-prefix-text
+    slice-aggregate-put
+    put-requires
+    same-length
+    returns-2)

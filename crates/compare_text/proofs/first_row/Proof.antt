@@ -1,0 +1,167 @@
+-- `compare_text::first_row` meets its contract: each return by what the line and the row tell. Assumes nothing.
+use mathlib.Core.Path.{sym}
+use mathlib.Core.List.{List}
+use Prim.Native.Nat.{ℕ, _≤_}
+use native.Mathlib.Omega.{arith}
+use lib.ListN.{length, take}
+use Rattle.sets.specs.Text.{Mask, largestInput}
+use Rattle.diff_count.specs.declared.Filter.{Filter}
+use Rattle.lines.specs.Lines.{maskIn}
+use Rattle.compare_text.specs.Answers.{Areas}
+use Rattle.compare_text.proofs.Judging.{Line, Read, first-asks, first-judged, first-missing, first-refused, line-ends, line-fits, line-length, no-line, row-read, row-refused}
+use borrow.Author.Needs.{needs}
+use Rattle.compare_text.proofs.first_row.Statement.{statement}
+use Rattle.compare_text.proofs.first_row.Tie as tie
+use Rattle.compare_text.proofs.first_row.Reads as reads
+use Rattle.compare_text.proofs.first_row.Lts as lts
+use Rattle.compare_text.proofs.second_row.Reads as second-row-reads
+use Rattle.decode.proofs.find.Reads as find-reads
+use Rattle.lines.proofs.row_line.Reads as row-line-reads
+
+-- the place where the line has its end
+abbrev Ended : Type 0
+Ended =
+    lts.After-known-told
+    (find-reads.Asked, find-reads.Learnt, row-line-reads.Asked, row-line-reads.Learnt, second-row-reads.Asked, second-row-reads.Learnt) reads.Pre reads.Post
+
+module _ (k : Ended) where
+  abbrev n : ℕ
+  n = k .before .before .before .before .before .args .config
+
+  abbrev m : Mask
+  m = maskIn (k .before .before .before .before .before .args .m)
+
+  abbrev s : List ℕ
+  s = k .before .before .before .before .before .args .input .now
+
+  abbrev end : ℕ
+  end = k .before .end .given .0 .0
+
+  few : length s ≤ largestInput
+  few = k .before .before .before .before .before .pre .0
+
+  areas : Areas n
+  areas = k .before .before .before .before .before .pre .1
+
+  ended : Line s end
+  ended = line-ends s (k .before .before .before .find .result) (k .before .before .before .find .ensures) end (k .before .end .given .1)
+
+-- the place where the row is read
+abbrev Given : Type 0
+Given =
+    lts.After-known-told2
+    (find-reads.Asked, find-reads.Learnt, row-line-reads.Asked, row-line-reads.Learnt, second-row-reads.Asked, second-row-reads.Learnt) reads.Pre reads.Post
+
+module _ (k : Given) where
+  abbrev f : Filter
+  f = k .before .f .given .0 .0
+
+  abbrev top : List ℕ
+  top = k .before .before .before .before .before .row-line .last .1 .1 .0
+
+  abbrev bits : List ℕ
+  bits = k .before .before .before .before .before .row-line .last .1 .1 .1 .0
+
+  read : Read (n (k .before .before .before .before .before .before .before .before .before)) (take (end (k .before .before .before .before .before .before .before .before .before)) (s (k .before .before .before .before .before .before .before .before .before))) f top bits
+  read =
+      let w = k .before .before .before .before .before .row-line in
+      row-read (n (k .before .before .before .before .before .before .before .before .before)) (take (end (k .before .before .before .before .before .before .before .before .before)) (s (k .before .before .before .before .before .before .before .before .before))) _ _ (w .result) top bits (w .ensures) f (k .before .f .given .1) (areas (k .before .before .before .before .before .before .before .before .before))
+
+find-requires : tie.Need-find-requires
+find-requires c κs = search needs
+
+enum-known-end : tie.Need-enum-known-end
+enum-known-end c = search needs
+
+enum-told : tie.Need-enum-told
+enum-told c = search needs
+
+returns : tie.Need-returns
+returns c =
+    let a = c .before .before .before .before .args in
+    let f = c .before .before .find in
+    first-missing (a .config) (maskIn (a .m)) (a .input .now) (no-line (a .input .now) (f .result) (f .ensures) (c .enum-told .given .1))
+
+add-next : tie.Need-add-next
+add-next c = omega (arith, ended c .inside, few c)
+
+slice-aggregate-row-line : tie.Need-slice-aggregate-row-line
+slice-aggregate-row-line c =
+    let k = c .before in
+    sym (line-length (s k) (end k) (ended k))
+
+slice-aggregate-row-line-2 : tie.Need-slice-aggregate-row-line-2
+slice-aggregate-row-line-2 c = search needs
+
+slice-aggregate-row-line-3 : tie.Need-slice-aggregate-row-line-3
+slice-aggregate-row-line-3 c = search needs
+
+row-line-requires : tie.Need-row-line-requires
+row-line-requires c κs =
+    let k = c .before .before .before in
+    (line-fits (s k) (end k) (ended k) (few k), areas k)
+
+enum-known-f : tie.Need-enum-known-f
+enum-known-f c = search needs
+
+slice-aggregate-second-row : tie.Need-slice-aggregate-second-row
+slice-aggregate-second-row c = search needs
+
+slice-aggregate-second-row-2 : tie.Need-slice-aggregate-second-row-2
+slice-aggregate-second-row-2 c = search needs
+
+sub-second-row : tie.Need-sub-second-row
+sub-second-row c = omega (arith, ended (c .before .before .before .before .before .before .before .before .before .before .before) .inside)
+
+part-second-row-start : tie.Need-part-second-row-start
+part-second-row-start c = omega (arith, ended (c .before .before .before .before .before .before .before .before .before .before .before) .inside)
+
+part-second-row-end : tie.Need-part-second-row-end
+part-second-row-end c = search needs
+
+second-row-requires : tie.Need-second-row-requires
+second-row-requires c κs =
+    let k = c .before .before .before in
+    let j = k .before .before .before .before .before .before .before .before .before in
+    first-asks (n j) (m j) (s j) (end j) (ended j) (f k) (top k) (bits k) (read k) (few j) (areas j) (k .before .before .before .before .before .before .before .before .before .before .before .before .before .before .pre .2)
+
+enum-known-r : tie.Need-enum-known-r
+enum-known-r c = search needs
+
+returns-2 : tie.Need-returns-2
+returns-2 c =
+    let k = c .before .before .before .before in
+    let j = k .before .before .before .before .before .before .before .before .before in
+    first-judged (n j) (m j) (s j) (end j) (ended j) (f k) (top k) (bits k) (read k) (c .second-row .result) (c .second-row .ensures)
+
+returns-3 : tie.Need-returns-3
+returns-3 c =
+    let j = c .before .before .before .before .before .before .before .before .before in
+    let w = c .before .before .before .before .before .row-line in
+    let x = c .before .r .given in
+    first-refused (n j) (m j) (s j) (end j) (ended j) (x .0 .0 .number)
+    (row-refused (n j) (take (end j) (s j)) _ _ (w .result) _ _ (w .ensures) (x .0 .0) 3 (x .1))
+
+pub first-row-spec : {M : Type 1} → statement M
+first-row-spec =
+    tie.close
+    (tie.spec
+    find-requires
+    enum-known-end
+    enum-told
+    returns
+    add-next
+    slice-aggregate-row-line
+    slice-aggregate-row-line-2
+    slice-aggregate-row-line-3
+    row-line-requires
+    enum-known-f
+    slice-aggregate-second-row
+    slice-aggregate-second-row-2
+    sub-second-row
+    part-second-row-start
+    part-second-row-end
+    second-row-requires
+    enum-known-r
+    returns-2
+    returns-3)

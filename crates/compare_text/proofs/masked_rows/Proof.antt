@@ -1,0 +1,132 @@
+-- `compare_text::masked_rows` meets its contract: each return by what the line and the mask tell. Assumes nothing.
+use mathlib.Core.Path.{_≡_, sym, ap, _∙_}
+use mathlib.Core.List.{List}
+use Prim.Native.Nat.{ℕ, _≤_}
+use native.Mathlib.Omega.{arith}
+use lib.ListN.{length, take}
+use Rattle.sets.specs.Text.{Mask, is, largestInput, maskLine}
+use Rattle.lines.specs.Lines.{maskIn, maskTold}
+use Rattle.lines.proofs.Judged.{mask-fits}
+use Rattle.compare_text.proofs.Judging.{Line, line-ends, line-length, masked-judged, masked-missing, masked-refused, no-line, rest-fits}
+use borrow.Author.Needs.{needs}
+use Rattle.compare_text.proofs.masked_rows.Statement.{statement}
+use Rattle.compare_text.proofs.masked_rows.Tie as tie
+use Rattle.compare_text.proofs.masked_rows.Reads as reads
+use Rattle.compare_text.proofs.masked_rows.Lts as lts
+use Rattle.compare_text.proofs.first_row.Reads as first-row-reads
+use Rattle.decode.proofs.find.Reads as find-reads
+use Rattle.lines.proofs.mask_line.Reads as mask-line-reads
+
+-- the place where the line has its end
+abbrev Ended : Type 0
+Ended =
+    lts.After-known-told
+    (find-reads.Asked, find-reads.Learnt, mask-line-reads.Asked, mask-line-reads.Learnt, first-row-reads.Asked, first-row-reads.Learnt) reads.Pre reads.Post
+
+module _ (k : Ended) where
+  abbrev n : ℕ
+  n = k .before .before .before .before .before .args .config
+
+  abbrev s : List ℕ
+  s = k .before .before .before .before .before .args .input .now
+
+  abbrev end : ℕ
+  end = k .before .end .given .0 .0
+
+  few : length s ≤ largestInput
+  few = k .before .before .before .before .before .pre .0
+
+  ended : Line s end
+  ended = line-ends s (k .before .before .before .find .result) (k .before .before .before .find .ensures) end (k .before .end .given .1)
+
+-- the place where the mask is known
+abbrev Given : Type 0
+Given =
+    lts.After-known-told2
+    (find-reads.Asked, find-reads.Learnt, mask-line-reads.Asked, mask-line-reads.Learnt, first-row-reads.Asked, first-row-reads.Learnt) reads.Pre reads.Post
+
+module _ (k : Given) where
+  abbrev m : Mask
+  m = maskIn (k .before .m .given .0 .0)
+
+  told : maskLine (take (end (k .before .before .before .before .before)) (s (k .before .before .before .before .before))) ≡ is m
+  told = sym (k .before .before .before .mask-line .ensures) ∙ ap maskTold (k .before .m .given .1)
+
+find-requires : tie.Need-find-requires
+find-requires c κs = search needs
+
+enum-known-end : tie.Need-enum-known-end
+enum-known-end c = search needs
+
+enum-told : tie.Need-enum-told
+enum-told c = search needs
+
+returns : tie.Need-returns
+returns c =
+    let a = c .before .before .before .before .args in
+    let f = c .before .before .find in
+    masked-missing (a .config) (a .input .now) (no-line (a .input .now) (f .result) (f .ensures) (c .enum-told .given .1))
+
+add-next : tie.Need-add-next
+add-next c = omega (arith, ended c .inside, few c)
+
+slice-aggregate-mask-line : tie.Need-slice-aggregate-mask-line
+slice-aggregate-mask-line c =
+    let k = c .before in
+    sym (line-length (s k) (end k) (ended k))
+
+mask-line-requires : tie.Need-mask-line-requires
+mask-line-requires c κs = search needs
+
+enum-known-m : tie.Need-enum-known-m
+enum-known-m c = search needs
+
+sub-first-row : tie.Need-sub-first-row
+sub-first-row c = omega (arith, ended (c .before .before .before .before .before) .inside)
+
+part-first-row-start : tie.Need-part-first-row-start
+part-first-row-start c = omega (arith, ended (c .before .before .before .before .before) .inside)
+
+part-first-row-end : tie.Need-part-first-row-end
+part-first-row-end c = search needs
+
+first-row-requires : tie.Need-first-row-requires
+first-row-requires c κs =
+    let k = c .before in
+    let j = k .before .before .before .before .before in
+    (rest-fits (s j) (end j) (ended j) (few j), j .before .before .before .before .before .pre .1, mask-fits (take (end j) (s j)) (m k) (told k))
+
+enum-known-r : tie.Need-enum-known-r
+enum-known-r c = search needs
+
+returns-2 : tie.Need-returns-2
+returns-2 c =
+    let k = c .before .before in
+    let j = k .before .before .before .before .before in
+    masked-judged (n j) (s j) (end j) (ended j) (m k) (c .first-row .result) (told k) (c .first-row .ensures)
+
+returns-3 : tie.Need-returns-3
+returns-3 c =
+    let j = c .before .before .before .before .before in
+    let x = c .before .r .given in
+    masked-refused (n j) (s j) (end j) (ended j) (x .0 .0 .number) (sym (c .before .before .before .mask-line .ensures) ∙ ap maskTold (x .1))
+
+pub masked-rows-spec : {M : Type 1} → statement M
+masked-rows-spec =
+    tie.close
+    (tie.spec
+    find-requires
+    enum-known-end
+    enum-told
+    returns
+    add-next
+    slice-aggregate-mask-line
+    mask-line-requires
+    enum-known-m
+    sub-first-row
+    part-first-row-start
+    part-first-row-end
+    first-row-requires
+    enum-known-r
+    returns-2
+    returns-3)
