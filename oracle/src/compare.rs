@@ -1,4 +1,4 @@
-//! The comparing program, written from docs/01-scope.md and docs/DECISIONS.md alone, as a second
+//! The comparing program, written from docs/01-scope.md and docs/DECISIONS.md, as a second
 //! source beside the port. Figures, keys and order are the Rust's, by the probe. `compare` reads
 //! standard input; `compare --many FILE` reads many inputs, each behind a line with its length.
 
