@@ -51,12 +51,12 @@ module _ {S : Set} {tops : List ℕ} {mask size start passed end : ℕ} (t : Ski
     pub skip-under : c .end < end
     skip-under = step .0
 
-    module _ {turned : ℕ} (m : turned ≡ blockAt (laid mask size) (c .end)) where
-      kept-is : bitAnd block turned ≡ blockAt (kept mask size S) (c .end)
-      kept-is = ap₂ bitAnd (step .2 .is) m ∙ sym (kept-block mask size S (c .end))
+    module _ {keeps : ℕ} (m : keeps ≡ bitAnd block (blockAt (laid mask size) (c .end))) where
+      kept-is : keeps ≡ blockAt (kept mask size S) (c .end)
+      kept-is = m ∙ ap (λ (x : ℕ). bitAnd x (blockAt (laid mask size) (c .end))) (step .2 .is) ∙ sym (kept-block mask size S (c .end))
 
       -- the mask keeps nothing of the block
-      pub skip-turn : bitAnd block turned ≡ 0 → Skipping S tops mask size start (c .passed) (c .end)
+      pub skip-turn : keeps ≡ 0 → Skipping S tops mask size start (c .passed) (c .end)
       skip-turn z =
           record {
             ahead = step .2 .ahead;
@@ -70,7 +70,7 @@ module _ {S : Set} {tops : List ℕ} {mask size start passed end : ℕ} (t : Ski
               ap (kept mask size S) x ∙ word-none-back (kept mask size S) (64 * c .end) 64 (sym kept-is ∙ z) (p - 64 * c .end) (omega arith)
           go p a b (no h) = skip-gap (suc (c .end)) (step .1) p (omega arith) b
 
-      pub skip-end : (bitAnd block turned ≡ 0 → ⊥) → NextKept (kept mask size S) tops start (Chunk (bitAnd block turned) c)
+      pub skip-end : (keeps ≡ 0 → ⊥) → NextKept (kept mask size S) tops start (Chunk keeps c)
       skip-end z = (
         omega (arith, z),
         (omega (arith, skip-under, t .within), skip-gap (suc (c .end)) (step .1), record { is = kept-is; ahead = step .2 .ahead }),

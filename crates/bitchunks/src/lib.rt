@@ -4,7 +4,7 @@ ghost use mathlib.Core.Bool.{cond, _&&_};
 ghost use mathlib.Core.Logic.{_⊎_};
 ghost use mathlib.Core.List.{List};
 ghost use Prim.Native.Nat.{ℕ, suc, _+_, _-_, _*_, _%_, _^_, _<_, _≤_, max, min};
-ghost use lib.Bits.{bitOr};
+ghost use lib.Bits.{bitAnd, bitOr};
 ghost use lib.Dec.{eqb, leb};
 ghost use lib.ListN.{length, take, drop};
 ghost use Rattle.sets.specs.Sets.{Set, apart, members, onward};
@@ -381,12 +381,23 @@ pub fn repeat_mask(mask: u64, size: usize) -> u64
 }
 
 // The same, turned to the block of this number: digit j is the mask's digit (64·index + j) mod size.
-pub fn turn_mask(block: u64, size: usize, index: usize) -> u64
+fn turn_mask(block: u64, size: usize, index: usize) -> u64
     requires { ⌜ (1 ≤ size) × (size ≤ largestMaskSize) × Laid size block × (64 * index ≤ 2 ^ 32) ⌝ }
     ensures { λ r. ⌜ r ≡ blockAt (laid block size) index ⌝ }
 {
     let shift = (64 * index) % size;
     (block >> shift) | (block << (size - shift))
+}
+
+// What the mask keeps of the block of this number. Of an empty block it keeps nothing, and the division is spared.
+pub fn masked_block(block: u64, block_mask: u64, size: usize, index: usize) -> u64
+    requires { ⌜ (1 ≤ size) × (size ≤ largestMaskSize) × Laid size «block_mask» × (64 * index ≤ 2 ^ 32) ⌝ }
+    ensures { λ r. ⌜ r ≡ bitAnd block (blockAt (laid «block_mask» size) index) ⌝ }
+{
+    if block == 0 {
+        return 0;
+    }
+    block & turn_mask(block_mask, size, index)
 }
 
 // The next block in which the mask keeps a member. `block_mask` is the mask laid over a block.
@@ -408,7 +419,7 @@ pub fn next_masked_chunk(
     loop {
         match next_chunk(top, count, blocks, n, Cursor { passed, end }) {
             NextChunk::Chunk(block, c) => {
-                let kept = block & turn_mask(block_mask, size, c.end);
+                let kept = masked_block(block, block_mask, size, c.end);
                 if kept != 0 {
                     return NextChunk::Chunk(kept, c);
                 }

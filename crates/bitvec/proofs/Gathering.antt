@@ -1,12 +1,12 @@
 -- Cells joined one after the other: what is joined is 0 where each is. Assumes nothing.
 use mathlib.Core.Path.{_≡_, refl, ap, ap₂, _∙_, subst}
 use mathlib.Core.List.{List}
-use Prim.Native.Nat.{ℕ, _+_, _≤_, _<_}
-use native.Mathlib.Decide.{ℕ-discrete}
+use Prim.Native.Nat.{ℕ, _+_, _-_, _≤_, _<_}
+use native.Mathlib.Decide.{decLe, ℕ-discrete}
 use native.Mathlib.Omega.{arith}
 use lib.Bits.{bitOr, and-le-l, and-le-r, or-add-and, or-zero-l}
 use lib.ListN.{getD}
-use Rattle.bitvec.specs.Cells.{Gathered}
+use Rattle.bitvec.specs.Cells.{Gathered, Zeros}
 
 pub or-both : (a b : ℕ) → bitOr a b ≡ 0 → (a ≡ 0) × (b ≡ 0)
 or-both a b h = (omega (arith, or-add-and a b, and-le-l a b, and-le-r a b), omega (arith, or-add-and a b, and-le-l a b, and-le-r a b))
@@ -42,3 +42,11 @@ pub join-end : {a b : ℕ} {l : List ℕ} {all i : ℕ} → b ≤ i → Gatherin
 join-end {a} {b} {l} {all} {i} h t =
     let e : i ≡ b = omega (arith, t .high) in
     subst (λ (x : ℕ). Gathered a x l all) e (t .joins)
+
+-- one cell more, below, is 0
+pub zeros-more : (l : List ℕ) (i b : ℕ) → getD l (i - 1) 0 ≡ 0 → Zeros i b l → Zeros (i - 1) b l
+zeros-more l i b z h j x y = go (decLe i j)
+  where
+    go : Dec (i ≤ j) → getD l j 0 ≡ 0
+    go (yes k) = h j k y
+    go (no k) = let e : j ≡ i - 1 = omega arith in ap (λ (a : ℕ). getD l a 0) e ∙ z

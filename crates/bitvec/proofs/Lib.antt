@@ -7,4 +7,3 @@ pub mod Flipping
 pub mod Lifting
 pub mod Resizing
 pub mod Reverse
-pub mod Search

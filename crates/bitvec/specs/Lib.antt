@@ -1,3 +1,2 @@
 pub mod Cells
-pub mod Highest
 pub mod Parts

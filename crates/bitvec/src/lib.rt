@@ -10,8 +10,7 @@ ghost use Rattle.sets.specs.Words.{held, blockAt, flipBit, flipBits};
 ghost use Rattle.sets.specs.Configurations.{blocksFor};
 ghost use Rattle.sets.specs.Filter.{filled};
 ghost use Rattle.sets.specs.Row.{bytesOf, numbers, spareByte, bitPart};
-ghost use Rattle.bitvec.specs.Cells.{zeroed, xored, Gathered};
-ghost use Rattle.bitvec.specs.Highest.{Highest};
+ghost use Rattle.bitvec.specs.Cells.{zeroed, xored, Gathered, Zeros};
 ghost use Rattle.bitvec.specs.Parts.{Room, Lifted, SplitOf, Folded};
 
 pub enum NextBucket {
@@ -57,22 +56,6 @@ pub fn toggle_all(blocks: &mut [u64], list: &[u32], n: usize)
 }
 
 // ---- a range of blocks
-
-// The largest bucket in the blocks below n.
-pub fn highest_below(blocks: &[u64], n: usize) -> NextBucket
-    requires { ⌜ (n ≤ length (now blocks)) × (64 * n ≤ 2 ^ 32) ⌝ }
-    ensures { λ r. ⌜ Highest (held (now (blocks .entry))) (64 * n) r ⌝ }
-{
-    let mut i = n;
-    while 0 < i {
-        i -= 1;
-        let block = blocks[i];
-        if block != 0 {
-            return NextBucket::At(buckets::into_bucket(i, buckets::from_block_msb(block)));
-        }
-    }
-    NextBucket::Nothing
-}
 
 // How many buckets the blocks from a up to b hold.
 pub fn count_ones(blocks: &[u64], a: usize, b: usize) -> usize
@@ -265,25 +248,46 @@ pub fn fold(top: &[u32], count: usize, blocks: &mut [u64], k: usize)
     toggle_all(blocks, top, count);
 }
 
+// How many of the first n blocks there are up to the last that holds a bucket.
+fn occupied(blocks: &[u64], n: usize) -> usize
+    requires { ⌜ n ≤ length (now blocks) ⌝ }
+    ensures { λ r. ⌜ (r ≤ n) × Zeros r n (now (blocks .entry)) ⌝ }
+{
+    let mut i = n;
+    while 0 < i {
+        let last = i - 1;
+        if blocks[last] != 0 {
+            return i;
+        }
+        i = last;
+    }
+    0
+}
+
 // Takes the largest buckets out of the first n blocks into the top cells, m at most, and says how many.
 pub fn lift(top: &mut [u32], blocks: &mut [u64], m: usize, n: usize) -> usize
     requires { ⌜ Room m n (now top) (now blocks) ⌝ }
     ensures { λ r. ⌜ Lifted m n (now (top .entry)) (now (blocks .entry)) (now (top .exit)) (now (blocks .exit)) r ⌝ }
 {
     let mut count: usize = 0;
-    let mut end = n;
+    let mut i = n;
+    // what is left of the block i, so that a block is read once and not for each of its buckets
+    let mut block: u64 = 0;
     while count < m {
-        match highest_below(blocks, end) {
-            NextBucket::At(p) => {
-                toggle(blocks, p);
-                top[count] = p as u32;
-                count += 1;
-                end = buckets::into_index(p) + 1;
-            }
-            NextBucket::Nothing => {
+        if block == 0 {
+            i = occupied(blocks, i);
+            if i == 0 {
                 return count;
             }
+            i -= 1;
+            block = blocks[i];
+            continue;
         }
+        let bit = buckets::from_block_msb(block);
+        block = block ^ buckets::into_block(bit);
+        blocks[i] = block;
+        top[count] = buckets::into_bucket(i, bit) as u32;
+        count += 1;
     }
     count
 }

@@ -1,12 +1,12 @@
 -- The blocks of the buckets listed, counted up bucket by bucket. Assumes nothing.
-use mathlib.Core.Path.{_≡_, ap}
+use mathlib.Core.Path.{_≡_, sym, ap, _∙_}
 use mathlib.Core.List.{List}
 use Prim.Native.Nat.{ℕ, _+_, _*_, _/_, _≤_, _<_, max}
 use native.Mathlib.Decide.{decLt}
 use native.Mathlib.Omega.{arith}
 use lib.ListN.{length, getD, take, length-take}
 use lib.Seq.{getD-take, length-take-le}
-use Rattle.diff_count.specs.Making.{UpTo}
+use Rattle.diff_count.specs.Making.{Led, UpTo}
 
 -- so many blocks reach over the first i of the n buckets listed, `least` at least, and no fewer do
 pub record Reaching (list : List ℕ) (n least most i : ℕ) : Type 0 where
@@ -42,4 +42,22 @@ module _ {list : List ℕ} {n least most i : ℕ} (t : Reaching list n least mos
         low = t .low;
         covers = λ j a. rw (getD-take n list j 0 (omega (arith, length-take n list))) (t .covers j (omega (arith, length-take n list)));
         high = λ k a b. t .high k a (λ j s. rw (getD-take n list j 0 (omega (arith, t .few))) at (b j (omega (arith, length-take-le n list l, t .few))));
+      }
+
+-- ---- a list in which none is above the first
+
+module _ (list : List ℕ) (n least : ℕ) (l : n ≤ length list) where
+  pub up-to-none : n ≡ 0 → UpTo (take n list) least least
+  up-to-none e = reach-end (reach-start list n least) l (omega arith)
+
+  pub up-to-first : {r : ℕ} → (n ≡ 0 → ⊥) → Led (take n list) → UpTo (take 1 list) least r → UpTo (take n list) least r
+  up-to-first {r} z L u =
+      let e : getD (take n list) 0 0 ≡ getD (take 1 list) 0 0 = getD-take n list 0 0 (omega arith) ∙ sym (getD-take 1 list 0 0 (omega arith)) in
+      record {
+        low = u .low;
+        covers = λ i h. omega (arith, L i h, u .covers 0 (omega (arith, length-take 1 list)));
+        high = λ k a b. u .high k a (λ i h.
+            let o : i ≡ 0 = omega (arith, length-take 1 list) in
+            let q : getD (take 1 list) i 0 ≡ getD (take 1 list) 0 0 = ap (λ (x : ℕ). getD (take 1 list) x 0) o in
+            omega (arith, b 0 (omega (arith, length-take n list))));
       }

@@ -1,8 +1,10 @@
 -- A filter made in lent memory: what a call answers and leaves.
 use mathlib.Core.Path.{_≡_}
 use mathlib.Core.List.{List}
-use Prim.Native.Nat.{ℕ, _*_, _≤_}
-use Rattle.sets.specs.Sets.{Set, Below}
+use Prim.Native.Nat.{ℕ, _*_, _≤_, _<_}
+use lib.ListN.{length, getD, drop}
+use Rattle.sets.specs.Sets.{Agree, Below, Empty, Set, apart}
+use Rattle.sets.specs.Words.{held}
 use Rattle.sets.specs.Configurations.{Config}
 use Rattle.sets.specs.Filter.{FilterRecord, recordOf, topSlice, bitSlice}
 use Rattle.sets.specs.Refusals.{Verdict, verdict, answer, filtersLent}
@@ -42,3 +44,18 @@ pub record UpTo (list : List ℕ) (least r : ℕ) : Type 0 where
   pub low : least ≤ r
   pub covers : Below (64 * r) list
   pub high : (k : ℕ) → least ≤ k → Below (64 * k) list → r ≤ k
+
+-- no bucket listed is above the first
+abbrev pub Led : List ℕ → Type 0
+Led list = (i : ℕ) → i < length list → getD list i 0 ≤ getD list 0 0
+
+-- k blocks that hold no bucket at or above the edge
+pub record BitsBelow (k edge : ℕ) (bits : List ℕ) : Type 0 where
+  pub room : k ≤ length bits
+  pub low : edge ≤ 64 * k
+  pub clear : Empty (held bits) edge (64 * k)
+
+-- k blocks hold the buckets that exactly one of two holds; what stands past them is as it was
+pub record BitsApart (k : ℕ) (first second old now : List ℕ) : Type 0 where
+  pub bits : Agree (64 * k) (held now) (apart (held first) (held second))
+  pub rest : drop k now ≡ drop k old

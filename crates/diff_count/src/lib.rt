@@ -1,13 +1,13 @@
 // The filter: a record by value beside two lent areas (diff_count.rs).
 ghost use mathlib.Core.Path.{_≡_};
 ghost use mathlib.Core.Bool.{true};
-ghost use Prim.Native.Nat.{_*_, _≤_};
+ghost use Prim.Native.Nat.{_*_, _^_, _≤_};
 ghost use lib.ListN.{length, take};
 ghost use Rattle.sets.specs.Sets.{Below, apart, flips};
 ghost use Rattle.sets.specs.Filter.{isFilter, shown};
 ghost use Rattle.bitvec.specs.Parts.{Becomes, Room};
 ghost use Rattle.judge.specs.Judging.{filterOf};
-ghost use Rattle.diff_count.specs.Making.{UpTo, filtersOf, tallyOf};
+ghost use Rattle.diff_count.specs.Making.{BitsApart, BitsBelow, Led, UpTo, filtersOf, tallyOf};
 ghost use Rattle.diff_count.specs.Calls.{Empties, Toggles, Differs};
 use bitvec::Tally;
 use sizes::Refusal;
@@ -43,8 +43,19 @@ fn blocks_up_to(list: &[u32], n: usize, least: usize) -> usize
     most
 }
 
-// Flips the buckets listed in the filter that stands in the areas.
-fn flip_all(
+// The same of a list in which none is above the first.
+fn blocks_up_to_first(list: &[u32], n: usize, least: usize) -> usize
+    requires { ⌜ (n ≤ length (now list)) × Led (take n (now list)) ⌝ }
+    ensures { λ r. ⌜ UpTo (take n (now (list .entry))) least r ⌝ }
+{
+    if n == 0 {
+        return least;
+    }
+    blocks_up_to(list, 1, least)
+}
+
+// Flips the buckets listed in the filter that stands in the areas: in the blocks, with its whole set folded into them.
+fn flip_and_split(
     top: &mut [u32],
     blocks: &mut [u64],
     tally: Tally,
@@ -58,10 +69,56 @@ fn flip_all(
     ensures { λ r. ⌜ Becomes m k (flips (now (list .entry)) (shown (now (top .entry)) (now (blocks .entry)) (tally .count) (tally .boundary))) (now (top .entry)) (now (blocks .entry)) (now (top .exit)) (now (blocks .exit)) (r .count) (r .boundary) ⌝ }
 {
     let count = tally.count;
-    let n = blocks_up_to(list, list.len(), blocks_up_to(top, count, 0));
+    let listed = list.len();
+    let n = blocks_up_to(list, listed, blocks_up_to_first(top, count, 0));
     bitvec::fold(top, count, blocks, k);
-    bitvec::toggle_all(blocks, list, list.len());
+    bitvec::toggle_all(blocks, list, listed);
     bitvec::split(top, blocks, m, k, n)
+}
+
+// Flips the buckets listed in the filter that stands in the areas. Below the boundary that is a matter of the bits alone.
+fn flip_all(
+    top: &mut [u32],
+    blocks: &mut [u64],
+    tally: Tally,
+    m: usize,
+    k: usize,
+    list: &[u32],
+) -> Tally
+    requires { ⌜ Room m k (now top) (now blocks) ⌝ }
+    requires { ⌜ isFilter m k (now top) (now blocks) (tally .count) (tally .boundary) ≡ true ⌝ }
+    requires { ⌜ Below (64 * k) (now list) ⌝ }
+    ensures { λ r. ⌜ Becomes m k (flips (now (list .entry)) (shown (now (top .entry)) (now (blocks .entry)) (tally .count) (tally .boundary))) (now (top .entry)) (now (blocks .entry)) (now (top .exit)) (now (blocks .exit)) (r .count) (r .boundary) ⌝ }
+{
+    if judge::all_below(list, tally.boundary) {
+        bitvec::toggle_all(blocks, list, list.len());
+        return tally;
+    }
+    flip_and_split(top, blocks, tally, m, k, list)
+}
+
+// The symmetric difference of two bitmaps, in the first k blocks of a third. Neither holds a bucket at or above its boundary, so the
+// blocks above both are not read.
+fn xor_bits(
+    to_blocks: &mut [u64],
+    k: usize,
+    blocks: &[u64],
+    boundary: usize,
+    blocks2: &[u64],
+    boundary2: usize,
+)
+    requires { ⌜ (k ≤ length (now «to_blocks»)) × (64 * k ≤ 2 ^ 32) ⌝ }
+    requires { ⌜ BitsBelow k boundary (now blocks) ⌝ }
+    requires { ⌜ BitsBelow k boundary2 (now blocks2) ⌝ }
+    ensures { λ _. ⌜ BitsApart k (now (blocks .entry)) (now (blocks2 .entry)) (now («to_blocks» .entry)) (now («to_blocks» .exit)) ⌝ }
+{
+    let mut edge = boundary;
+    if edge < boundary2 {
+        edge = boundary2;
+    }
+    let n = bitvec::num_blocks(edge);
+    bitvec::xor(to_blocks, blocks, blocks2, n);
+    bitvec::zero_blocks(to_blocks, n, k);
 }
 
 // The symmetric difference of two filters, in a third pair of areas.
@@ -84,8 +141,15 @@ fn xor(
 {
     let count = tally.count;
     let count2 = tally2.count;
-    let n = blocks_up_to(top2, count2, blocks_up_to(top, count, 0));
-    bitvec::xor(to_blocks, blocks, blocks2, k);
+    let n = blocks_up_to_first(top2, count2, blocks_up_to_first(top, count, 0));
+    xor_bits(
+        to_blocks,
+        k,
+        blocks,
+        tally.boundary,
+        blocks2,
+        tally2.boundary,
+    );
     bitvec::toggle_all(to_blocks, top, count);
     bitvec::toggle_all(to_blocks, top2, count2);
     bitvec::split(to_top, to_blocks, m, k, n)

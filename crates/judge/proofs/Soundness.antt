@@ -1,6 +1,6 @@
 -- The parts of test 8, and the loops that look at listed and top cells. Assumes nothing.
 use mathlib.Core.Path.{_≡_, refl, sym, ap, ap₂, _∙_, subst}
-use mathlib.Core.Bool.{Bool, true, false, _&&_}
+use mathlib.Core.Bool.{Bool, true, false, not, _&&_, _||_, and-true}
 use mathlib.Core.List.{List, _∷_}
 use Prim.Native.Nat.{ℕ, suc, _+_, _-_, _*_, _/_, _%_, _^_, _≤_, _<_}
 use native.Mathlib.Nat.{div-le-self, lt-of-lt-of-le}
@@ -8,11 +8,11 @@ use native.Mathlib.Decide.{decLt, ℕ-discrete}
 use native.Mathlib.Numerals.{add-one}
 use native.Mathlib.Omega.{arith}
 use lib.Bits.{bitOr}
-use lib.Dec.{ltb, eqb}
+use lib.Dec.{ltb, leb, eqb}
 use lib.ListN.{length, getD, take, drop, drop-of-length-le}
 use lib.Pow.{pow-mono, pow-pos}
 use lib.Seq.{drop-cons}
-use borrow.Author.Tests.{lt-ltb, le-ltb, eqb-true, eqb-false}
+use borrow.Author.Tests.{lt-ltb, le-ltb, le-leb, lt-leb, eqb-true, eqb-false}
 use Rattle.sets.specs.Sets.{Empty, Falls, allBelow}
 use Rattle.sets.specs.Words.{held, digit}
 use Rattle.sets.specs.Filter.{isFilter}
@@ -23,33 +23,33 @@ use Rattle.bitvec.specs.Parts.{Room}
 use Rattle.bitvec.proofs.Gathering.{or-both, or-none}
 use Rattle.judge.specs.Judging.{Tells, TopFits}
 
--- ---- all_below
+-- ---- cells_below
 
--- what the cells from i on tell is still open
-pub record Asking (limit : ℕ) (l : List ℕ) (i : ℕ) : Type 0 where
-  pub high : i ≤ length l
-  pub asks : allBelow limit l ≡ allBelow limit (drop i l)
+-- the cells before i told whether one is not below the limit; what those from i on tell is still open
+pub record Asking (limit : ℕ) (l : List ℕ) (above : Bool) (i : ℕ) : Type 0 where
+  pub asks : allBelow limit l ≡ (not above && allBelow limit (drop i l))
 
-pub ask-start : (limit : ℕ) (l : List ℕ) → Asking limit l 0
-ask-start limit l = record { high = omega arith; asks = refl }
+pub ask-start : (limit : ℕ) (l : List ℕ) → Asking limit l false 0
+ask-start limit l = record { asks = refl }
 
-module _ {limit : ℕ} {l : List ℕ} (i : ℕ) (t : Asking limit l i) where
-  module _ (h : i < length l) (x : ℕ) (e : x ≡ getD l i 0) where
-    at : allBelow limit (drop i l) ≡ (ltb x limit && allBelow limit (drop (i + 1) l))
-    at = ap (allBelow limit) (drop-cons l i 0 h ∙ ap₂ (λ (y z : ℕ). y ∷ drop z l) (sym e) (sym (add-one i)))
+-- the test of one more cell
+join : (above : Bool) (limit x : ℕ) (rest : Bool) → (not above && (ltb x limit && rest)) ≡ (not (above || leb limit x) && rest)
+join true limit x rest = refl
+join false limit x rest = ap (λ (b : Bool). b && rest) (go (decLt x limit))
+  where
+    go : Dec (x < limit) → ltb x limit ≡ not (leb limit x)
+    go (yes h) = lt-ltb x limit h ∙ ap not (sym (lt-leb limit x h))
+    go (no h) = le-ltb x limit (omega arith) ∙ ap not (sym (le-leb limit x (omega arith)))
 
-    pub ask-not : limit ≤ x → false ≡ allBelow limit l
-    ask-not w = sym (t .asks ∙ at ∙ ap (λ (b : Bool). b && allBelow limit (drop (i + 1) l)) (le-ltb x limit w))
+module _ {limit : ℕ} {l : List ℕ} {above : Bool} {i : ℕ} (t : Asking limit l above i) where
+  pub ask-turn : i < length l → Asking limit l (above || leb limit (getD l i 0)) (i + 1)
+  ask-turn h =
+      let x : ℕ = getD l i 0 in
+      let d : drop i l ≡ x ∷ drop (i + 1) l = drop-cons l i 0 h ∙ ap (λ (z : ℕ). x ∷ drop z l) (sym (add-one i)) in
+      record { asks = t .asks ∙ ap (λ (r : List ℕ). not above && allBelow limit r) d ∙ join above limit x (allBelow limit (drop (i + 1) l)) }
 
-    pub ask-turn : x < limit → Asking limit l (i + 1)
-    ask-turn w =
-        record {
-          high = omega arith;
-          asks = t .asks ∙ at ∙ ap (λ (b : Bool). b && allBelow limit (drop (i + 1) l)) (lt-ltb x limit w);
-        }
-
-  pub ask-end : length l ≤ i → true ≡ allBelow limit l
-  ask-end h = sym (t .asks ∙ ap (allBelow limit) (drop-of-length-le l h))
+  pub ask-end : length l ≤ i → not above ≡ allBelow limit l
+  ask-end h = sym (t .asks ∙ ap (λ (r : List ℕ). not above && allBelow limit r) (drop-of-length-le l h) ∙ and-true (not above))
 
 -- ---- falls
 

@@ -17,18 +17,27 @@ pub enum MaskAnswer {
     Refused(Refusal),
 }
 
-// Whether every bucket listed is below the limit.
+// Whether every bucket listed is below the limit. No bucket ends the loop, so that several can be compared at once.
+fn cells_below(list: &[u32], limit: u32) -> bool
+    ensures { λ r. ⌜ r ≡ allBelow limit (now (list .entry)) ⌝ }
+{
+    let mut above = false;
+    let mut i = 0;
+    while i < list.len() {
+        above = above | (list[i] >= limit);
+        i += 1;
+    }
+    !above
+}
+
+// The same of any limit. Every cell is below one of more than 32 bits.
 pub fn all_below(list: &[u32], limit: usize) -> bool
     ensures { λ r. ⌜ r ≡ allBelow limit (now (list .entry)) ⌝ }
 {
-    let mut i = 0;
-    while i < list.len() {
-        if buckets::into_usize(list[i]) >= limit {
-            return false;
-        }
-        i += 1;
+    if 4294967296 <= limit {
+        return true;
     }
-    true
+    cells_below(list, limit as u32)
 }
 
 // ---- 8

@@ -3,24 +3,26 @@ use mathlib.Core.Path.{_≡_, refl, sym, ap, ap₂, _∙_, subst}
 use mathlib.Core.Bool.{Bool, true, false, true≢false, cond, not, _&&_, _||_}
 use mathlib.Core.Logic.{_⊎_}
 use mathlib.Core.List.{List, [], _∷_}
-use Prim.Native.Nat.{ℕ, zero, suc, _+_, _-_, _*_, _/_, _^_, _≤_, _<_, min}
+use Prim.Native.Nat.{ℕ, _+_, _-_, _*_, _/_, _^_, _≤_, _<_, min}
 use native.Mathlib.Nat.{div-add-mod', mul-le-mul-right}
+use native.Mathlib.Decide.{decLt}
 use native.Mathlib.Omega.{arith}
 use lib.Dec.{eqb, ltb}
-use lib.ListN.{length, getD}
-use borrow.Author.Tests.{eq-eqb, ltb-true, ne-eqb, not-false, not-true}
-use Rattle.sets.specs.Sets.{members, onward}
+use lib.ListN.{length, getD, List·getD-eq-default}
+use borrow.Author.Tests.{eq-eqb, lt-ltb, ltb-true, ne-eqb, not-false, not-true}
+use Rattle.sets.specs.Sets.{allBelow, members, onward}
 use Rattle.sets.specs.Words.{held}
 use Rattle.sets.specs.Configurations.{Config, blocksFor, configAt}
 use Rattle.sets.specs.Row.{countFault, fallFault, faultless, highFault, lowest, place, rising, rowBlockCount, rowBlocks}
 use Rattle.sets.specs.Row.{rowBoundary, rowEntries, sound, spareByte, spareFault, topBytes}
 use Rattle.sets.proofs.Configurations.{entry-width, line-at}
 use Rattle.sets.proofs.Reading.{sound-cond}
+use Rattle.sets.proofs.Tests.{all-below, and-intro}
 use Rattle.sizes.specs.Sizes.{sizesAt}
 use Rattle.sizes.specs.declared.Sizes.{Sizes}
 use Rattle.bitchunks.specs.Rows.{blocks, edgeIn, entries, layoutOf}
 use Rattle.bitchunks.specs.declared.Layout.{Layout}
-use Rattle.judge_row.specs.Judging.{Listed, Measured}
+use Rattle.judge_row.specs.Judging.{Listed, Measured, entriesFall}
 
 -- ---- where the parts stand
 
@@ -52,26 +54,30 @@ pub placed : (n : ℕ) {s : Sizes} {l : Layout} {bs : List ℕ} → s ≡ sizesA
 placed n {s} {l} {bs} e m =
     subst (λ (x : Sizes). Placed x l bs) (sym e) (subst (λ (x : Layout). Placed (sizesAt n) x bs) (sym m) (placed-at n bs))
 
-pub placed-in : {s : Sizes} {l : Layout} (bs : List ℕ) → Listed s × Measured s l bs → Placed s l bs
-placed-in bs p =
-    let k = p .0 in
-    placed (k .0) (k .1) (p .1 (k .0) (k .1))
+pub placed-in : {s : Sizes} {l : Layout} (bs : List ℕ) → Listed s → Measured s l bs → Placed s l bs
+placed-in bs k m = placed (k .0) (k .1) (m (k .0) (k .1))
 
--- no entry of a list that falls is above what it falls from
-rising-low : (width at before : ℕ) (l : List ℕ) → true ≡ sound (rising width at before l) → (i : ℕ) → getD l i 0 ≤ before
-rising-low width at before [] h i = omega arith
-rising-low width at before (x ∷ xs) h i = go (rising-low width (at + width) x xs) (ltb x before) refl h i
+-- what falls from no more than n stays below n
+pub rising-below : (width at before n : ℕ) (l : List ℕ) → before ≤ n → true ≡ sound (rising width at before l) → allBelow n l ≡ true
+rising-below width at before n [] a h = refl
+rising-below width at before n (x ∷ xs) a h = go (rising-below width (at + width) x n xs) (ltb x before) refl h
   where
-    go : (true ≡ sound (rising width (at + width) x xs) → (j : ℕ) → getD xs j 0 ≤ x)
-        → (b : Bool) → ltb x before ≡ b → true ≡ sound (cond b (rising width (at + width) x xs) (place at)) → (j : ℕ) → getD (x ∷ xs) j 0 ≤ before
-    go f true e g zero = omega (arith, ltb-true x before e)
-    go f true e g (suc j) = omega (arith, ltb-true x before e, f g j)
-    go f false e g j = absurd (true≢false g)
+    go : (x ≤ n → true ≡ sound (rising width (at + width) x xs) → allBelow n xs ≡ true)
+        → (b : Bool) → ltb x before ≡ b → true ≡ sound (cond b (rising width (at + width) x xs) (place at)) → (ltb x n && allBelow n xs) ≡ true
+    go f true e g =
+        let l : x < before = ltb-true x before e in
+        and-intro (ltb x n) (allBelow n xs) (lt-ltb x n (omega arith)) (f (omega arith) g)
+    go f false e g = absurd (true≢false g)
+
+-- and then no place holds more than n
+low : (n : ℕ) (l : List ℕ) → allBelow n l ≡ true → (i : ℕ) → getD l i 0 ≤ n
+low n l h i = go (decLt i (length l))
+  where
+    go : Dec (i < length l) → getD l i 0 ≤ n
+    go (yes a) = omega (arith, all-below n l h i a)
+    go (no a) = omega (arith, List·getD-eq-default l 0 {n = i} (omega arith))
 
 -- ---- the tests
-
-abbrev falling : Sizes → Layout → List ℕ → Bool
-falling s l bs = sound (rising (l .width) 0 (s .buckets) (entries l bs))
 
 abbrev spareRight : Layout → List ℕ → ℕ → Bool
 spareRight l bs edge = eqb edge 0 || eqb (getD bs (l .at - 1) 0) (spareByte edge)
@@ -81,9 +87,9 @@ clear l bs edge = sound (lowest (l .at) (members (onward edge (held (blocks l bs
 
 -- what they ask
 module _ {s : Sizes} {l : Layout} {bs : List ℕ} (p : Placed s l bs) where
-  pub edge-small : {r : Bool} {edge : ℕ} → r ≡ falling s l bs → not r ≡ false → edge ≡ edgeIn l (s .top) bs → edge ≤ 2 ^ 32
-  edge-small {r} f h q =
-      omega (arith, p .small, rising-low (l .width) 0 (s .buckets) (entries l bs) (sym (not-false r h) ∙ f) (s .top - 1))
+  pub edge-small : true ≡ entriesFall s l bs → {edge : ℕ} → edge ≡ edgeIn l (s .top) bs → edge ≤ 2 ^ 32
+  edge-small f q =
+      omega (arith, low (2 ^ 32) (entries l bs) (rising-below (l .width) 0 (s .buckets) (2 ^ 32) (entries l bs) (p .small) f) (s .top - 1))
 
   pub spare-in : {edge k : ℕ} → k ≡ blocksFor edge → l .n ≡ k → 0 < edge → l .at - 1 < length bs
   spare-in e u h = omega (arith, p .whole)
@@ -93,7 +99,7 @@ module _ {s : Sizes} {l : Layout} {bs : List ℕ} (p : Placed s l bs) where
 
 -- one after the other, with the boundary
 abbrev tests : Sizes → Layout → List ℕ → ℕ → Bool
-tests s l bs edge = falling s l bs && (eqb (l .n) (blocksFor edge) && (spareRight l bs edge && clear l bs edge))
+tests s l bs edge = entriesFall s l bs && (eqb (l .n) (blocksFor edge) && (spareRight l bs edge && clear l bs edge))
 
 tests-at : (n : ℕ) (bs : List ℕ) → tests (sizesAt n) (layoutOf (configAt n) bs) bs (rowBoundary (configAt n) bs) ≡ faultless (configAt n) bs
 unfolding sizesAt rowEntries rowBlocks fallFault countFault spareFault highFault
@@ -108,7 +114,7 @@ tests-at n bs =
 -- what each of them told
 module _ (n : ℕ) {s : Sizes} {l : Layout} (bs : List ℕ) (e : s ≡ sizesAt n) (m : l ≡ layoutOf (configAt n) bs) where
   faultless-is : {edge : ℕ} → edge ≡ edgeIn l (s .top) bs
-      → (a b d h : Bool) → a ≡ falling s l bs → b ≡ eqb (l .n) (blocksFor edge) → d ≡ spareRight l bs edge → h ≡ clear l bs edge
+      → (a b d h : Bool) → a ≡ entriesFall s l bs → b ≡ eqb (l .n) (blocksFor edge) → d ≡ spareRight l bs edge → h ≡ clear l bs edge
       → (a && (b && (d && h))) ≡ faultless (configAt n) bs
   unfolding sizesAt rowEntries
   faultless-is q a b d h ha hb hd hh =
@@ -117,17 +123,16 @@ module _ (n : ℕ) {s : Sizes} {l : Layout} (bs : List ℕ) (e : s ≡ sizesAt n
       ∙ ap₂ (λ (x : Sizes) (y : Layout). tests x y bs (edgeIn y (x .top) bs)) e m
       ∙ tests-at n bs
 
-  pub not-falling : {r : Bool} → r ≡ falling s l bs → not r ≡ true → false ≡ faultless (configAt n) bs
-  not-falling {r} f t = faultless-is refl false _ _ _ (sym (not-true r t) ∙ f) refl refl refl
+  pub not-falling : false ≡ entriesFall s l bs → false ≡ faultless (configAt n) bs
+  not-falling f = faultless-is refl false _ _ _ f refl refl refl
 
-  module _ {r : Bool} (f : r ≡ falling s l bs) (t : not r ≡ false) {edge : ℕ} (q : edge ≡ edgeIn l (s .top) bs)
-      {k : ℕ} (g : k ≡ blocksFor edge) where
+  module _ (f : true ≡ entriesFall s l bs) {edge : ℕ} (q : edge ≡ edgeIn l (s .top) bs) {k : ℕ} (g : k ≡ blocksFor edge) where
     pub not-counted : (l .n ≡ k → ⊥) → false ≡ faultless (configAt n) bs
-    not-counted u = faultless-is q true false _ _ (sym (not-false r t) ∙ f) (sym (ne-eqb _ _ (λ h. u (h ∙ sym g)))) refl refl
+    not-counted u = faultless-is q true false _ _ f (sym (ne-eqb _ _ (λ h. u (h ∙ sym g)))) refl refl
 
     module _ (u : l .n ≡ k) {d : Bool} (v : d ≡ spareRight l bs edge) where
       pub not-spare : not d ≡ true → false ≡ faultless (configAt n) bs
-      not-spare w = faultless-is q true true false _ (sym (not-false r t) ∙ f) (sym (eq-eqb _ _ (u ∙ g))) (sym (not-true d w) ∙ v) refl
+      not-spare w = faultless-is q true true false _ f (sym (eq-eqb _ _ (u ∙ g))) (sym (not-true d w) ∙ v) refl
 
       pub high-decides : not d ≡ false → {h : Bool} → h ≡ clear l bs edge → h ≡ faultless (configAt n) bs
-      high-decides w {h} x = faultless-is q true true true h (sym (not-false r t) ∙ f) (sym (eq-eqb _ _ (u ∙ g))) (sym (not-false d w) ∙ v) x
+      high-decides w {h} x = faultless-is q true true true h f (sym (eq-eqb _ _ (u ∙ g))) (sym (not-false d w) ∙ v) x

@@ -29,10 +29,10 @@ use Rattle.sizes.proofs.Laws.{known-of, unknown-of}
 use Rattle.bitchunks.specs.Rows.{RowWalks, blocks, entries, layoutOf, rowSet}
 use Rattle.bitchunks.specs.declared.Layout.{Layout}
 use Rattle.bitchunks.proofs.Shown.{row-walk, row-walks}
-use Rattle.judge_row.specs.Judging.{Listed, rowVerdict, rowOf}
+use Rattle.judge_row.specs.Judging.{Listed, entriesFall, rowVerdict, rowOf}
 use Rattle.judge_row.specs.declared.RowAnswer.{RowAnswer}
 use Rattle.judge_row.specs.declared.RowAnswer.the-variants.{Fits, Refused}
-use Rattle.judge_row.proofs.Faults.{Placed, placed}
+use Rattle.judge_row.proofs.Faults.{Placed, not-falling, placed, rising-below}
 
 -- the four tests of 5 are one
 four : (a b d h : Bool) (v w : Verdict) → cond a (cond b (cond d (cond h v w) w) w) w ≡ cond (a && (b && (d && h))) v w
@@ -96,25 +96,40 @@ module _ (n : ℕ) (bs : List ℕ) where
       pub row-placed : Placed s l bs
       row-placed = placed n here (hl n here)
 
-      entries-are : {d : Bool} → d ≡ allBelow (s .buckets) (entries l bs) → entriesFit (configAt n) bs ≡ d
+      entries-are : entriesFit (configAt n) bs ≡ allBelow (s .buckets) (entries l bs)
       unfolding sizesAt entriesFit rowEntries
-      entries-are hd = sym (hd ∙ ap₂ (λ (x : Sizes) (y : Layout). allBelow (x .buckets) (entries y bs)) here (hl n here))
+      entries-are = sym (ap₂ (λ (x : Sizes) (y : Layout). allBelow (x .buckets) (entries y bs)) here (hl n here))
 
       module _ {b : Bool} (hb : (i : ℕ) → s ≡ sizesAt i → b ≡ lengthFits (configAt i) bs) (tb : not b ≡ false) where
         -- after 4
         after-4 : (d h : Bool) → entriesFit (configAt n) bs ≡ d → faultless (configAt n) bs ≡ h → answerOf (chain true true d h) s l ≡ rowOf n bs
         after-4 d h = after-1 (hl n here) true d h (sym (hb n here) ∙ not-false b tb)
 
-        module _ {d : Bool} (hd : d ≡ allBelow (s .buckets) (entries l bs)) where
-          pub row-past : not d ≡ true → Refused (refusal 2) ≡ rowOf n bs
-          row-past td = after-4 false _ (entries-are hd ∙ not-true d td) refl
+        module _ {d : Bool} (hd : d ≡ entriesFall s l bs) where
+          -- refused by 2 or else by 5
+          pub row-unfallen : not d ≡ true → {x : Refusal} → x ≡ refusal (cond (allBelow (s .buckets) (entries l bs)) 5 2) → Refused x ≡ rowOf n bs
+          row-unfallen td q =
+              let fits : Bool = allBelow (s .buckets) (entries l bs) in
+              ap (λ (x : Refusal). Refused x) q
+              ∙ two-five fits
+              ∙ after-4 fits false entries-are (sym (not-falling n bs here (hl n here) (sym (not-true d td) ∙ hd)))
+            where
+              two-five : (e : Bool) → Refused (refusal (cond e 5 2)) ≡ answerOf (chain true true e false) s l
+              two-five true = refl
+              two-five false = refl
 
           module _ (td : not d ≡ false) {h : Bool} (hh : (i : ℕ) → s ≡ sizesAt i → h ≡ faultless (configAt i) bs) where
+            -- after 2: what falls fits
+            after-2 : (k : Bool) → h ≡ k → answerOf (chain true true true k) s l ≡ rowOf n bs
+            after-2 k e =
+                let w : ℕ = s .buckets in
+                after-4 true k (entries-are ∙ rising-below (l .width) 0 w w (entries l bs) (omega arith) (sym (not-false d td) ∙ hd)) (sym (hh n here) ∙ e)
+
             pub row-faulty : not h ≡ true → Refused (refusal 5) ≡ rowOf n bs
-            row-faulty th = after-4 true false (entries-are hd ∙ not-false d td) (sym (hh n here) ∙ not-true h th)
+            row-faulty th = after-2 false (not-true h th)
 
             pub row-fits : not h ≡ false → Fits s l ≡ rowOf n bs
-            row-fits th = after-4 true true (entries-are hd ∙ not-false d td) (sym (hh n here) ∙ not-false h th)
+            row-fits th = after-2 true (not-false h th)
 
 -- ---- for callers
 

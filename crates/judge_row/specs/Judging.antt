@@ -1,12 +1,14 @@
 -- What is answered of a row: the first test that fails, or where its parts stand.
 use mathlib.Core.Path.{_≡_}
+use mathlib.Core.Bool.{Bool}
 use mathlib.Core.List.{List, _∷_}
 use Prim.Native.Nat.{ℕ}
 use Rattle.sets.specs.Configurations.{configAt}
+use Rattle.sets.specs.Row.{rising, sound}
 use Rattle.sets.specs.Refusals.{Verdict, verdict, answer, isKnown, isRowOf}
 use Rattle.sizes.specs.Sizes.{sizesAt, refusal}
 use Rattle.sizes.specs.declared.Sizes.{Sizes}
-use Rattle.bitchunks.specs.Rows.{layoutOf}
+use Rattle.bitchunks.specs.Rows.{entries, layoutOf}
 use Rattle.bitchunks.specs.declared.Layout.{Layout}
 use Rattle.judge_row.specs.declared.RowAnswer.{RowAnswer}
 use Rattle.judge_row.specs.declared.RowAnswer.the-variants.{Fits, Refused}
@@ -27,3 +29,7 @@ Listed s = (n : ℕ) × (s ≡ sizesAt n)
 -- the layout is the row's
 abbrev pub Measured : Sizes → Layout → List ℕ → Type 0
 Measured s layout row = (n : ℕ) → s ≡ sizesAt n → layout ≡ layoutOf (configAt n) row
+
+-- whether the row's entries fall, from below W
+abbrev pub entriesFall : Sizes → Layout → List ℕ → Bool
+entriesFall s layout row = sound (rising (layout .width) 0 (s .buckets) (entries layout row))

@@ -1,6 +1,6 @@
 // The tests by which the calls on rows refuse, in document 01's order. None writes to what it is lent.
 ghost use mathlib.Core.Path.{_≡_};
-ghost use mathlib.Core.Bool.{_||_};
+ghost use mathlib.Core.Bool.{true, cond, _||_};
 ghost use mathlib.Core.Logic.{_⊎_};
 ghost use Prim.Native.Nat.{ℕ, _+_, _-_, _*_, _/_, _^_, _≤_, _<_};
 ghost use lib.Dec.{eqb};
@@ -9,8 +9,8 @@ ghost use Rattle.sets.specs.Sets.{allBelow, members, onward};
 ghost use Rattle.sets.specs.Words.{held};
 ghost use Rattle.sets.specs.Configurations.{blocksFor, configAt};
 ghost use Rattle.sets.specs.Row.{faultless, lengthFits, lowest, numbers, rising, sound, spareByte};
-ghost use Rattle.sizes.specs.Sizes.{sizesAt};
-ghost use Rattle.judge_row.specs.Judging.{Listed, Measured, rowOf};
+ghost use Rattle.sizes.specs.Sizes.{refusal, sizesAt};
+ghost use Rattle.judge_row.specs.Judging.{Listed, Measured, entriesFall, rowOf};
 use bitchunks::Layout;
 use sizes::Refusal;
 use sizes::Sizes;
@@ -67,7 +67,7 @@ fn layout_of(row: &[u8], s: Sizes) -> Layout
     }
 }
 
-// ---- 2
+// ---- 2, 5: the entries
 
 // Whether every entry is below the limit.
 fn entries_fit(row: &[u8], width: usize, count: usize, limit: usize) -> bool
@@ -84,9 +84,7 @@ fn entries_fit(row: &[u8], width: usize, count: usize, limit: usize) -> bool
     true
 }
 
-// ---- 5
-
-// Whether each entry is below the one before, the first below the limit.
+// Whether each entry is below the one before, the first below the limit. Then every entry is below the limit.
 fn entries_fall(row: &[u8], width: usize, count: usize, limit: usize) -> bool
     requires { ⌜ ((width ≡ 2) ⊎ (width ≡ 4)) × (count * width ≤ length (now row)) ⌝ }
     ensures { λ r. ⌜ r ≡ sound (rising width 0 limit (numbers width count (now (row .entry)))) ⌝ }
@@ -103,6 +101,19 @@ fn entries_fall(row: &[u8], width: usize, count: usize, limit: usize) -> bool
     }
     true
 }
+
+// The refusal of entries that do not fall: 2 goes before 5.
+fn unfallen(row: &[u8], width: usize, count: usize, limit: usize) -> Refusal
+    requires { ⌜ ((width ≡ 2) ⊎ (width ≡ 4)) × (count * width ≤ length (now row)) ⌝ }
+    ensures { λ r. ⌜ r ≡ refusal (cond (allBelow limit (numbers width count (now (row .entry)))) 5 2) ⌝ }
+{
+    if !entries_fit(row, width, count, limit) {
+        return Refusal { number: 2 };
+    }
+    Refusal { number: 5 }
+}
+
+// ---- 5: the bit part
 
 // The smallest of m entries, 0 where the row has fewer.
 fn boundary_of(row: &[u8], width: usize, count: usize, m: usize) -> usize
@@ -138,18 +149,14 @@ fn high_fits(row: &[u8], at: usize, n: usize, boundary: usize) -> bool
     last >> ((boundary - 1) % 64) < 2
 }
 
-// The four tests.
+// The four tests, the first of which has passed: the entries fall.
 fn is_faultless(row: &[u8], layout: Layout, s: Sizes) -> bool
     requires { ⌜ Listed s ⌝ }
     requires { ⌜ Measured s layout (now row) ⌝ }
+    requires { ⌜ true ≡ entriesFall s layout (now row) ⌝ }
     ensures { λ r. ⌜ ((n : ℕ) → s ≡ sizesAt n → r ≡ faultless (configAt n) (now (row .entry))) ⌝ }
 {
-    let width = layout.width;
-    let count = layout.count;
-    if !entries_fall(row, width, count, s.buckets) {
-        return false;
-    }
-    let boundary = boundary_of(row, width, count, s.top);
+    let boundary = boundary_of(row, layout.width, layout.count, s.top);
     if layout.n != bitvec::num_blocks(boundary) {
         return false;
     }
@@ -171,8 +178,9 @@ pub fn row(config: u64, row: &[u8]) -> RowAnswer
                 return RowAnswer::Refused(Refusal { number: 4 });
             }
             let layout = layout_of(row, s);
-            if !entries_fit(row, layout.width, layout.count, s.buckets) {
-                return RowAnswer::Refused(Refusal { number: 2 });
+            if !entries_fall(row, layout.width, layout.count, s.buckets) {
+                let refusal = unfallen(row, layout.width, layout.count, s.buckets);
+                return RowAnswer::Refused(refusal);
             }
             if !is_faultless(row, layout, s) {
                 return RowAnswer::Refused(Refusal { number: 5 });

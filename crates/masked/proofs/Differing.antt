@@ -49,12 +49,12 @@ module _ {S R : Set} {mask size : ℕ} {tops others : List ℕ} {k passed other 
     alone : Next (apart S R) tops end (chunks.Chunk block (record { passed = c .passed; end = c .end }))
     alone = (differ-step .under, differ-step .gap, record { is = differ-step .is; ahead = differ-step .ahead })
 
-    module _ {turned : ℕ} (m : turned ≡ blockAt (laid mask size) (c .end)) where
+    module _ {keeps : ℕ} (m : keeps ≡ bitAnd block (blockAt (laid mask size) (c .end))) where
       -- the mask keeps nothing of the block
-      pub differ-turn : bitAnd block turned ≡ 0 → Differing S R mask size tops others k (c .passed) (c .passed2) (c .end)
+      pub differ-turn : keeps ≡ 0 → Differing S R mask size tops others k (c .passed) (c .passed2) (c .end)
       differ-turn z = record { skips = skip-turn (t .skips) refl alone m z; otherAhead = differ-step .otherAhead }
 
-      pub differ-end : (bitAnd block turned ≡ 0 → ⊥) → DecidesAt mask size S R k (bitAnd block turned) first
+      pub differ-end : (keeps ≡ 0 → ⊥) → DecidesAt mask size S R k keeps first
       differ-end z =
           let f = skip-end (t .skips) refl alone m z in
           record { index = c .end; under = f .1 .0; gap = f .1 .1; some = f .0; is = f .1 .2 .is; firstIs = differ-step .firstIs }

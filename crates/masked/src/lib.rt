@@ -61,7 +61,7 @@ fn deciding_block(
     loop {
         match bitchunks::next_xor_chunk(top, count, blocks, n, top2, count2, blocks2, n2, at) {
             NextXor::Chunk(block, first, c) => {
-                let kept = block & bitchunks::turn_mask(block_mask, size, c.end);
+                let kept = bitchunks::masked_block(block, block_mask, size, c.end);
                 if kept != 0 {
                     break Deciding::Block(kept, first);
                 }

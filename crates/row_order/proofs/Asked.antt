@@ -5,11 +5,11 @@ use mathlib.Core.List.{List, [], _∷_, _++_}
 use Prim.Native.Nat.{ℕ, _*_}
 use Rattle.sets.specs.Sets.{Set}
 use Rattle.sets.specs.Words.{blockAt}
-use Rattle.sets.specs.Configurations.{known, configAt}
+use Rattle.sets.specs.Configurations.{Config, W, known, configAt}
 use Rattle.sets.specs.Masks.{laid, orderOf}
 use Rattle.sets.specs.Row.{shownRow}
 use Rattle.sets.specs.Refusals.{Test, taken, refused, verdict, firstFailing, isKnown, isMask, isRowOf}
-use Rattle.sets.proofs.Order.{order-same}
+use Rattle.sets.proofs.Order.{order-same, order-self}
 use Rattle.sets.proofs.Verdicts.{after-taken, after-refused}
 use Rattle.sizes.specs.Sizes.{sizesOf}
 use Rattle.sizes.specs.declared.Sizes.{Sizes}
@@ -70,6 +70,17 @@ module _ (n mask size : ℕ) (first second : List ℕ) where
       refuses (λ x. orders.Refused x) rowsShown (t .0, first-decides n first second (t .1), t .2)
 
   module _ {j : RowAnswer} {s : Sizes} {l : Layout} (e : j ≡ rowOf n first) (q : j ≡ rows.Fits s l) where
+    -- rows of the same bytes show one set
+    pub judged-same : first ≡ second → orders.Equal ≡ judgedOf n mask size first second
+    unfolding judgedOf rowsOrder
+    judged-same h =
+        let c : Config = configAt n in
+        let fits = row-told n first e q .0 in
+        takes (λ x. orders.Refused x) rowsShown (second-decides n first second fits ∙ ap (rowVerdict n) (sym h) ∙ fits)
+        (ap orderTold
+        (sym (order-self (W c) mask size (shownRow c first))
+        ∙ ap (λ (x : List ℕ). orderOf (W c) mask size (shownRow c first) (shownRow c x)) h))
+
     pub judged-second : {i : RowAnswer} {x : Refusal} → i ≡ rowOf n second → i ≡ rows.Refused x → orders.Refused x ≡ judgedOf n mask size first second
     unfolding judgedOf
     judged-second e₂ q₂ =

@@ -1,2 +1,3 @@
 pub mod Asked
+pub mod Comparing
 pub mod Theorems

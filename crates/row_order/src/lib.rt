@@ -1,9 +1,12 @@
 // The order of two rows under a mask, walked in their bytes, and the greater of two rows.
 ghost use mathlib.Core.Path.{_≡_};
 ghost use Prim.Native.Nat.{_*_, _≤_};
+ghost use lib.ListN.{length};
 ghost use Rattle.sets.specs.Masks.{largestMaskSize, orderOf};
+ghost use Rattle.bitvec.specs.Cells.{Gathered, xored};
 ghost use Rattle.bitchunks.specs.Rows.{RowWalks, rowSet};
 ghost use Rattle.bitchunks.specs.Mask.{Laid};
+ghost use Rattle.judge.specs.Judging.{Tells};
 ghost use Rattle.masked.specs.Inner.{Decides, orderTold};
 ghost use Rattle.row_order.specs.Calls.{cmpRowsOf, greaterOf, seen};
 ghost use Rattle.row_order.specs.Inner.{judgedOf};
@@ -39,7 +42,7 @@ fn deciding_block(
     loop {
         match bitchunks::next_row_xor_chunk(first, layout, second, layout2, at) {
             NextXor::Chunk(block, held, c) => {
-                let kept = block & bitchunks::turn_mask(block_mask, size, c.end);
+                let kept = bitchunks::masked_block(block, block_mask, size, c.end);
                 if kept != 0 {
                     break Deciding::Block(kept, held);
                 }
@@ -70,7 +73,40 @@ fn order(
     masked::order_by(deciding_block(first, layout, second, layout2, block_mask, size, k))
 }
 
-// The order of two rows under a mask laid over a block. The first is judged before the second.
+// The differences of the bytes from a up to b, joined. No early way out, so that many bytes are compared at once.
+fn differing(first: &[u8], second: &[u8], a: usize, b: usize) -> u8
+    requires { ⌜ (a ≤ b) × (b ≤ length (now first)) × (b ≤ length (now second)) ⌝ }
+    ensures { λ r. ⌜ Gathered a b (xored b (now (first .entry)) (now (second .entry))) r ⌝ }
+{
+    let mut all: u8 = 0;
+    let mut i = a;
+    while i < b {
+        all = all | (first[i] ^ second[i]);
+        i += 1;
+    }
+    all
+}
+
+// Whether two rows have the same bytes. Those that differ mostly do so in their first bytes, so the parts are short.
+fn same(first: &[u8], second: &[u8]) -> bool
+    ensures { λ r. ⌜ Tells r (now (first .entry) ≡ now (second .entry)) ⌝ }
+{
+    let n = first.len();
+    if second.len() != n {
+        return false;
+    }
+    let mut a = 0;
+    while a < n {
+        let b = a + bitchunks::least(256, n - a);
+        if differing(first, second, a, b) != 0 {
+            return false;
+        }
+        a = b;
+    }
+    true
+}
+
+// The order of two rows under a mask laid over a block. The first is judged before the second. A row that is taken shows one set, so rows of the same bytes are equal once the first is taken.
 fn order_judged(
     config: u64,
     block_mask: u64,
@@ -82,12 +118,17 @@ fn order_judged(
     ensures { λ r. ⌜ r ≡ judgedOf config «block_mask» size (now (first .entry)) (now (second .entry)) ⌝ }
 {
     match judge_row::row(config, first) {
-        RowAnswer::Fits(s, layout) => match judge_row::row(config, second) {
-            RowAnswer::Fits(_, layout2) => {
-                order(first, layout, second, layout2, block_mask, size, s.blocks)
+        RowAnswer::Fits(s, layout) => {
+            if same(first, second) {
+                return OrderAnswer::Equal;
             }
-            RowAnswer::Refused(r) => OrderAnswer::Refused(r),
-        },
+            match judge_row::row(config, second) {
+                RowAnswer::Fits(_, layout2) => {
+                    order(first, layout, second, layout2, block_mask, size, s.blocks)
+                }
+                RowAnswer::Refused(r) => OrderAnswer::Refused(r),
+            }
+        }
         RowAnswer::Refused(r) => OrderAnswer::Refused(r),
     }
 }

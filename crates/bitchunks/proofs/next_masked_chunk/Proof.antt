@@ -24,8 +24,8 @@ next-chunk-requires c κs =
 enum-known-block : tie.Need-enum-known-block Inv-loop μ-loop
 enum-known-block c = search needs
 
-turn-mask-requires : tie.Need-turn-mask-requires Inv-loop μ-loop
-turn-mask-requires c κs =
+masked-block-requires : tie.Need-masked-block-requires Inv-loop μ-loop
+masked-block-requires c κs =
     let k = c .before in
     let t = k .before .before .before .loop .inv in
     let s = k .before .before .before .before .before .before in
@@ -34,7 +34,7 @@ turn-mask-requires c κs =
 returns : tie.Need-returns Inv-loop μ-loop
 returns c =
     let k = c .before .before .before in
-    skip-end (k .before .before .before .loop .inv) (k .block .given .1) (k .before .before .next-chunk .ensures) (c .before .turn-mask .ensures) (c .if1 .taken)
+    skip-end (k .before .before .before .loop .inv) (k .block .given .1) (k .before .before .next-chunk .ensures) (c .before .masked-block .ensures) (c .if1 .taken)
 
 loop-less : tie.Need-loop-less Inv-loop μ-loop
 loop-less c =
@@ -44,7 +44,7 @@ loop-less c =
 loop-again : tie.Need-loop-again Inv-loop μ-loop
 loop-again c =
     let k = c .before .before .before in
-    skip-turn (k .before .before .before .loop .inv) (k .block .given .1) (k .before .before .next-chunk .ensures) (c .before .turn-mask .ensures) (c .if1 .left)
+    skip-turn (k .before .before .before .loop .inv) (k .block .given .1) (k .before .before .next-chunk .ensures) (c .before .masked-block .ensures) (c .if1 .left)
 
 enum-told : tie.Need-enum-told Inv-loop μ-loop
 enum-told c = search needs
@@ -63,7 +63,7 @@ next-masked-chunk-spec =
     loop-holds
     next-chunk-requires
     enum-known-block
-    turn-mask-requires
+    masked-block-requires
     returns
     loop-less
     loop-again

@@ -1,40 +1,74 @@
--- `bitvec::lift` meets its contract: `count` buckets are taken out, and none is left at or above the block `end`. Assumes nothing.
-use mathlib.Core.Path.{subst}
-use Prim.Native.Nat.{_-_, _*_}
+-- `bitvec::lift` meets its contract: `count` buckets are taken out, and above the block in hand none is left. Assumes nothing.
+use Prim.Native.Nat.{_+_, _-_, _<_}
 use native.Mathlib.Omega.{arith}
-use Rattle.sets.specs.Words.{held}
-use Rattle.bitvec.specs.Highest.{Largest, Highest}
-use Rattle.bitvec.proofs.Lifting.{Turn, start, turn, full, emptied}
+use Rattle.bitvec.proofs.Lifting.{Turn, start, down, turn, full, emptied}
 use borrow.Author.Needs.{needs}
 use Rattle.bitvec.proofs.lift.Statement.{statement}
 use Rattle.bitvec.proofs.lift.Tie as tie
 
 abbrev Inv-loop : tie.InvT-loop
-Inv-loop top₀ blocks₀ m n count₀ end₀ top blocks count end = Turn m n top₀ blocks₀ top blocks count end
+Inv-loop top₀ blocks₀ m n count₀ i₀ block₀ top blocks count i block = Turn m n top₀ blocks₀ top blocks count i block
 
 abbrev μ-loop : tie.MeasureT-loop
-μ-loop top₀ blocks₀ m n count₀ end₀ top blocks count end = m - count
+μ-loop top₀ blocks₀ m n count₀ i₀ block₀ top blocks count i block = i + (m - count)
 
--- what the search found
-found : (c : tie.After-p Inv-loop μ-loop) → Largest (held (c .before .before .before .before .before .loop .blocks)) (64 * c .before .before .before .before .before .loop .end) (c .p .given .0 .0)
-found c =
-    subst (Highest (held (c .before .before .before .before .before .loop .blocks)) (64 * c .before .before .before .before .before .loop .end))
-    (c .p .given .1) (c .before .before .highest-below .ensures)
+-- a block that is not 0 is in hand
+index : (c : tie.Else1 Inv-loop μ-loop) → c .before .before .loop .i < c .before .before .before .before .before .args .n
+index c = c .before .before .loop .inv .isRead (omega arith)
 
 loop-holds : tie.Need-loop-holds Inv-loop μ-loop
 loop-holds c = start _ _ _ _
 
-highest-below-requires : tie.Need-highest-below-requires Inv-loop μ-loop
-highest-below-requires c κs = omega arith
+occupied-requires : tie.Need-occupied-requires Inv-loop μ-loop
+occupied-requires c κs = omega arith
 
-enum-known-p : tie.Need-enum-known-p Inv-loop μ-loop
-enum-known-p c = search needs
+same-length : tie.Need-same-length Inv-loop μ-loop
+same-length c = search needs
 
-toggle-requires : tie.Need-toggle-requires Inv-loop μ-loop
-toggle-requires c κs = omega (arith, found (c .before .before) .small)
+same-length-2 : tie.Need-same-length-2 Inv-loop μ-loop
+same-length-2 c = search needs
+
+returns : tie.Need-returns Inv-loop μ-loop
+returns c =
+    let o = c .before .occupied .ensures in
+    let k = c .before .before .before .before .before in
+    emptied (k .before .before .before .pre) (k .loop .inv) (c .before .before .before .if1 .taken) _ (o .0) (o .1) (omega arith) (omega arith)
+
+sub-i : tie.Need-sub-i Inv-loop μ-loop
+sub-i c = omega arith
+
+mul-block : tie.Need-mul-block Inv-loop μ-loop
+mul-block c = omega arith
+
+slice-read-block : tie.Need-slice-read-block Inv-loop μ-loop
+slice-read-block c = omega arith
+
+loop-less : tie.Need-loop-less Inv-loop μ-loop
+loop-less c = omega arith
+
+loop-again : tie.Need-loop-again Inv-loop μ-loop
+loop-again c =
+    let o = c .before .before .occupied .ensures in
+    let k = c .before .before .before .before .before .before in
+    down (k .before .before .before .pre) (k .loop .inv) (c .before .before .before .before .if1 .taken) _ (o .0) (o .1) (omega arith)
+
+from-block-msb-requires : tie.Need-from-block-msb-requires Inv-loop μ-loop
+from-block-msb-requires c κs = omega arith
+
+into-block-requires : tie.Need-into-block-requires Inv-loop μ-loop
+into-block-requires c κs = c .from-block-msb .ensures .small
+
+mul-blocks : tie.Need-mul-blocks Inv-loop μ-loop
+mul-blocks c = omega (arith, index (c .before .before))
+
+slice-write-blocks : tie.Need-slice-write-blocks Inv-loop μ-loop
+slice-write-blocks c = omega (arith, index (c .before .before))
+
+into-bucket-requires : tie.Need-into-bucket-requires Inv-loop μ-loop
+into-bucket-requires c κs = omega (arith, index (c .before .before), c .before .from-block-msb .ensures .small)
 
 cast-top : tie.Need-cast-top Inv-loop μ-loop
-cast-top c = omega (arith, found (c .before .before .before .before .before) .small)
+cast-top c = omega (arith, index (c .before .before .before), c .before .before .from-block-msb .ensures .small)
 
 mul-top : tie.Need-mul-top Inv-loop μ-loop
 mul-top c = omega arith
@@ -45,36 +79,14 @@ slice-write-top c = omega arith
 add-count : tie.Need-add-count Inv-loop μ-loop
 add-count c = omega arith
 
-into-index-requires : tie.Need-into-index-requires Inv-loop μ-loop
-into-index-requires c κs = search needs
+loop-less-2 : tie.Need-loop-less-2 Inv-loop μ-loop
+loop-less-2 c = omega arith
 
-add-end : tie.Need-add-end Inv-loop μ-loop
-add-end c = omega (arith, c .into-index .ensures, found (c .before .before .before .before .before .before) .small)
-
-loop-less : tie.Need-loop-less Inv-loop μ-loop
-loop-less c = omega arith
-
-loop-again : tie.Need-loop-again Inv-loop μ-loop
-loop-again c =
-    let g = c .before .before .before in
-    let p = g .before .before .before in
-    let k = p .before .before .before .before .before in
-    turn (k .before .before .before .pre) (k .loop .inv) _ _ _ (omega arith) (found p) (g .toggle .ensures) (c .into-index .ensures)
-
-enum-told : tie.Need-enum-told Inv-loop μ-loop
-enum-told c = search needs
-
-same-length : tie.Need-same-length Inv-loop μ-loop
-same-length c = search needs
-
-same-length-2 : tie.Need-same-length-2 Inv-loop μ-loop
-same-length-2 c = search needs
-
-returns : tie.Need-returns Inv-loop μ-loop
-returns c =
-    let k = c .before .before .before .before .before in
-    emptied (k .before .before .before .pre) (k .loop .inv) (omega arith)
-    (subst (Highest (held (k .loop .blocks)) (64 * k .loop .end)) (c .enum-told .given .1) (c .before .before .highest-below .ensures))
+loop-again-2 : tie.Need-loop-again-2 Inv-loop μ-loop
+loop-again-2 c =
+    let b = c .before .before in
+    let k = b .before .before .before in
+    turn (k .before .before .before .pre) (k .loop .inv) _ (omega arith) (index (b .before)) (b .from-block-msb .ensures) _ _ (c .into-bucket .ensures) (c .before .into-block .ensures)
 
 same-length-3 : tie.Need-same-length-3 Inv-loop μ-loop
 same-length-3 c = search needs
@@ -92,21 +104,26 @@ lift-spec =
     Inv-loop
     μ-loop
     loop-holds
-    highest-below-requires
-    enum-known-p
-    toggle-requires
+    occupied-requires
+    same-length
+    same-length-2
+    returns
+    sub-i
+    mul-block
+    slice-read-block
+    loop-less
+    loop-again
+    from-block-msb-requires
+    into-block-requires
+    mul-blocks
+    slice-write-blocks
+    into-bucket-requires
     cast-top
     mul-top
     slice-write-top
     add-count
-    into-index-requires
-    add-end
-    loop-less
-    loop-again
-    enum-told
-    same-length
-    same-length-2
-    returns
+    loop-less-2
+    loop-again-2
     same-length-3
     same-length-4
     returns-2)

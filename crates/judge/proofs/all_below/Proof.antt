@@ -1,61 +1,22 @@
--- `judge::all_below` meets its contract: one turn of the loop for each bucket listed. Assumes nothing.
-use Prim.Native.Nat.{_-_}
+-- `judge::all_below` meets its contract: a cell has 32 bits. Assumes nothing.
+use mathlib.Core.Path.{sym}
 use native.Mathlib.Omega.{arith}
-use lib.ListN.{length}
 use borrow.Author.Needs.{needs}
-use Rattle.judge.proofs.Soundness.{Asking, ask-start, ask-not, ask-turn, ask-end}
+use Rattle.sets.proofs.Tests.{below-all}
 use Rattle.judge.proofs.all_below.Statement.{statement}
 use Rattle.judge.proofs.all_below.Tie as tie
 
-abbrev Inv-loop : tie.InvT-loop
-Inv-loop list limit i₀ i = Asking limit list i
+returns : tie.Need-returns
+returns c = sym (below-all _ (c .before .before .args .list .now) (λ i _. omega (arith, c .before .shared-slice-known .given i)))
 
-abbrev μ-loop : tie.MeasureT-loop
-μ-loop list limit i₀ i = length list - i
+cast-cells-below : tie.Need-cast-cells-below
+cast-cells-below c = search needs
 
-loop-holds : tie.Need-loop-holds Inv-loop μ-loop
-loop-holds c = ask-start _ _
+cells-below-requires : tie.Need-cells-below-requires
+cells-below-requires c κs = search needs
 
-mul-into-usize : tie.Need-mul-into-usize Inv-loop μ-loop
-mul-into-usize c = omega arith
-
-shared-slice-read-into-usize : tie.Need-shared-slice-read-into-usize Inv-loop μ-loop
-shared-slice-read-into-usize c = omega arith
-
-into-usize-requires : tie.Need-into-usize-requires Inv-loop μ-loop
-into-usize-requires c κs = search needs
-
-returns : tie.Need-returns Inv-loop μ-loop
-returns c =
-    let k = c .before .before .before .before in
-    ask-not (k .loop .i) (k .loop .inv) (c .before .before .before .loop-test .taken) (c .before .into-usize .result) (c .before .into-usize .ensures) (c .if1 .taken)
-
-add-i : tie.Need-add-i Inv-loop μ-loop
-add-i c = omega arith
-
-loop-less : tie.Need-loop-less Inv-loop μ-loop
-loop-less c = omega arith
-
-loop-again : tie.Need-loop-again Inv-loop μ-loop
-loop-again c =
-    let k = c .before .before .before .before in
-    ask-turn (k .loop .i) (k .loop .inv) (c .before .before .before .loop-test .taken) (c .before .into-usize .result) (c .before .into-usize .ensures) (c .if1 .left)
-
-returns-2 : tie.Need-returns-2 Inv-loop μ-loop
-returns-2 c = ask-end (c .before .loop .i) (c .before .loop .inv) (c .loop-test .left)
+returns-2 : tie.Need-returns-2
+returns-2 c = search needs
 
 pub all-below-spec : {M : Type 1} → statement M
-all-below-spec =
-    tie.close
-    (tie.spec
-    Inv-loop
-    μ-loop
-    loop-holds
-    mul-into-usize
-    shared-slice-read-into-usize
-    into-usize-requires
-    returns
-    add-i
-    loop-less
-    loop-again
-    returns-2)
+all-below-spec = tie.close (tie.spec returns cast-cells-below cells-below-requires returns-2)

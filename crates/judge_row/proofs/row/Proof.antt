@@ -1,6 +1,8 @@
 -- `judge_row::row` meets its contract: each test decides, in the order of judging. Assumes nothing.
-use Rattle.judge_row.proofs.Verdicts.{row-faulty, row-fits, row-listed, row-misfit, row-past, row-placed, row-unknown}
+use mathlib.Core.Path.{sym, _∙_}
+use Rattle.judge_row.proofs.Verdicts.{row-faulty, row-fits, row-listed, row-misfit, row-placed, row-unfallen, row-unknown}
 use borrow.Author.Needs.{needs}
+use borrow.Author.Tests.{not-false}
 use Rattle.judge_row.proofs.row.Statement.{statement}
 use Rattle.judge_row.proofs.row.Tie as tie
 
@@ -20,31 +22,37 @@ returns c =
 layout-of-requires : tie.Need-layout-of-requires
 layout-of-requires c κs = row-listed _ (c .before .before .before .before .before .sizes-of .ensures) (c .before .before .before .s .given .1)
 
-entries-fit-requires : tie.Need-entries-fit-requires
-entries-fit-requires c κs =
+entries-fall-requires : tie.Need-entries-fall-requires
+entries-fall-requires c κs =
     let s = c .before .before .before .before in
     let p = row-placed _ (s .before .before .before .before .args .row .now) (s .before .before .sizes-of .ensures) (s .s .given .1) (c .layout-of .ensures) in
     (p .width, p .entriesIn)
 
+unfallen-requires : tie.Need-unfallen-requires
+unfallen-requires c κs = entries-fall-requires (c .before .before) κs
+
 returns-2 : tie.Need-returns-2
 returns-2 c =
-    let l = c .before .before in
+    let l = c .before .before .before in
     let s = l .before .before .before .before in
-    row-past _ _ (s .before .before .sizes-of .ensures) (s .s .given .1) (l .layout-of .ensures)
-    (l .before .before .length-fits .ensures) (l .before .if1 .left) (c .before .entries-fit .ensures) (c .if2 .taken)
+    row-unfallen _ _ (s .before .before .sizes-of .ensures) (s .s .given .1) (l .layout-of .ensures)
+    (l .before .before .length-fits .ensures) (l .before .if1 .left) (c .before .before .entries-fall .ensures) (c .before .if2 .taken)
+    (c .unfallen .ensures)
 
 is-faultless-requires : tie.Need-is-faultless-requires
 is-faultless-requires c κs =
     let l = c .before .before in
-    let s = l .before .before .before .before in
-    (row-listed _ (s .before .before .sizes-of .ensures) (s .s .given .1), l .layout-of .ensures)
+    let s = l .before .before .before .before in (
+      row-listed _ (s .before .before .sizes-of .ensures) (s .s .given .1),
+      (l .layout-of .ensures, sym (not-false (c .before .entries-fall .result) (c .if2 .left)) ∙ c .before .entries-fall .ensures),
+    )
 
 returns-3 : tie.Need-returns-3
 returns-3 c =
     let l = c .before .before .before .before in
     let s = l .before .before .before .before in
     row-faulty _ _ (s .before .before .sizes-of .ensures) (s .s .given .1) (l .layout-of .ensures)
-    (l .before .before .length-fits .ensures) (l .before .if1 .left) (c .before .before .before .entries-fit .ensures) (c .before .before .if2 .left)
+    (l .before .before .length-fits .ensures) (l .before .if1 .left) (c .before .before .before .entries-fall .ensures) (c .before .before .if2 .left)
     (c .before .is-faultless .ensures) (c .if3 .taken)
 
 enum-known-r : tie.Need-enum-known-r
@@ -55,7 +63,7 @@ returns-4 c =
     let l = c .before .before .before .before in
     let s = l .before .before .before .before in
     row-fits _ _ (s .before .before .sizes-of .ensures) (s .s .given .1) (l .layout-of .ensures)
-    (l .before .before .length-fits .ensures) (l .before .if1 .left) (c .before .before .before .entries-fit .ensures) (c .before .before .if2 .left)
+    (l .before .before .length-fits .ensures) (l .before .if1 .left) (c .before .before .before .entries-fall .ensures) (c .before .before .if2 .left)
     (c .before .is-faultless .ensures) (c .if3 .left)
 
 returns-5 : tie.Need-returns-5
@@ -70,7 +78,8 @@ row-spec =
     length-fits-requires
     returns
     layout-of-requires
-    entries-fit-requires
+    entries-fall-requires
+    unfallen-requires
     returns-2
     is-faultless-requires
     returns-3
