@@ -1,0 +1,44 @@
+-- `exports::zamgulekt_cmp_masked` meets its contract: it tells what `cmp_masked` answers. Assumes nothing.
+use mathlib.Core.Path.{ap, ap₂, _∙_}
+use denote.Ref.{now}
+use Rattle.diff_count.specs.declared.Filter.{Filter}
+use Rattle.masked.specs.Calls.{cmpOf}
+use Rattle.exports.specs.Told.{orderNumbered}
+use Rattle.exports.proofs.Telling.{told-as}
+use borrow.Author.Needs.{needs}
+use Rattle.exports.proofs.zamgulekt_cmp_masked.Statement.{statement}
+use Rattle.exports.proofs.zamgulekt_cmp_masked.Tie as tie
+
+filter-in-requires : tie.Need-filter-in-requires
+filter-in-requires c κs = search needs
+
+filter-in-requires-2 : tie.Need-filter-in-requires-2
+filter-in-requires-2 c κs = search needs
+
+cmp-masked-requires : tie.Need-cmp-masked-requires
+cmp-masked-requires c κs = search needs
+
+put-order-requires : tie.Need-put-order-requires
+put-order-requires c κs = search needs
+
+returns : tie.Need-returns
+returns c =
+    let t = c .before in
+    let g = t .before in
+    let f = g .before in
+    let a = f .before .before .before .before .before .before .args in
+    told-as
+    (ap orderNumbered
+    (t .cmp-masked .ensures
+    ∙ ap₂ (λ (x y : Filter). cmpOf x (now (a .top)) (now (a .blocks)) y (now (a .top2)) (now (a .blocks2)) (a .mask) (a .size)) (f .filter-in .ensures) (g .filter-in2 .ensures)))
+    (c .put-order .ensures)
+
+pub zamgulekt-cmp-masked-spec : {M : Type 1} → statement M
+zamgulekt-cmp-masked-spec =
+    tie.close
+    (tie.spec
+    filter-in-requires
+    filter-in-requires-2
+    cmp-masked-requires
+    put-order-requires
+    returns)

@@ -1,0 +1,30 @@
+-- `exports::zamgulekt_exact_count` meets its contract: it tells what `exact_count` answers. Assumes nothing.
+use mathlib.Core.Path.{ap, _∙_}
+use denote.Ref.{now}
+use Rattle.diff_count.specs.declared.Filter.{Filter}
+use Rattle.counts.specs.Counting.{exactOf}
+use Rattle.exports.specs.Told.{countTold}
+use Rattle.exports.proofs.Telling.{told-as}
+use borrow.Author.Needs.{needs}
+use Rattle.exports.proofs.zamgulekt_exact_count.Statement.{statement}
+use Rattle.exports.proofs.zamgulekt_exact_count.Tie as tie
+
+filter-in-requires : tie.Need-filter-in-requires
+filter-in-requires c κs = search needs
+
+exact-count-requires : tie.Need-exact-count-requires
+exact-count-requires c κs = search needs
+
+put-count-requires : tie.Need-put-count-requires
+put-count-requires c κs = search needs
+
+returns : tie.Need-returns
+returns c =
+    let t = c .before in
+    let i = c .before .before in
+    let a = i .before .before .before .before .args in
+    told-as (ap countTold (t .exact-count .ensures ∙ ap (λ (f : Filter). exactOf f (now (a .top)) (now (a .blocks))) (i .filter-in .ensures))) (c .put-count .ensures)
+
+pub zamgulekt-exact-count-spec : {M : Type 1} → statement M
+zamgulekt-exact-count-spec =
+    tie.close (tie.spec filter-in-requires exact-count-requires put-count-requires returns)

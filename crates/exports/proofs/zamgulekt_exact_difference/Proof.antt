@@ -1,0 +1,44 @@
+-- `exports::zamgulekt_exact_difference` meets its contract: it tells what `exact_difference` answers. Assumes nothing.
+use mathlib.Core.Path.{ap, ap₂, _∙_}
+use denote.Ref.{now}
+use Rattle.diff_count.specs.declared.Filter.{Filter}
+use Rattle.counts.specs.Counting.{exactDifferenceOf}
+use Rattle.exports.specs.Told.{countTold}
+use Rattle.exports.proofs.Telling.{told-as}
+use borrow.Author.Needs.{needs}
+use Rattle.exports.proofs.zamgulekt_exact_difference.Statement.{statement}
+use Rattle.exports.proofs.zamgulekt_exact_difference.Tie as tie
+
+filter-in-requires : tie.Need-filter-in-requires
+filter-in-requires c κs = search needs
+
+filter-in-requires-2 : tie.Need-filter-in-requires-2
+filter-in-requires-2 c κs = search needs
+
+exact-difference-requires : tie.Need-exact-difference-requires
+exact-difference-requires c κs = search needs
+
+put-count-requires : tie.Need-put-count-requires
+put-count-requires c κs = search needs
+
+returns : tie.Need-returns
+returns c =
+    let t = c .before in
+    let g = t .before in
+    let f = g .before in
+    let a = f .before .before .before .before .before .before .args in
+    told-as
+    (ap countTold
+    (t .exact-difference .ensures
+    ∙ ap₂ (λ (x y : Filter). exactDifferenceOf x (now (a .top)) (now (a .blocks)) y (now (a .top2)) (now (a .blocks2))) (f .filter-in .ensures) (g .filter-in2 .ensures)))
+    (c .put-count .ensures)
+
+pub zamgulekt-exact-difference-spec : {M : Type 1} → statement M
+zamgulekt-exact-difference-spec =
+    tie.close
+    (tie.spec
+    filter-in-requires
+    filter-in-requires-2
+    exact-difference-requires
+    put-count-requires
+    returns)

@@ -1,0 +1,44 @@
+-- `exports::zamgulekt_limited_difference` meets its contract: it tells what `limited_difference` answers. Assumes nothing.
+use mathlib.Core.Path.{ap, ap₂, _∙_}
+use denote.Ref.{now}
+use Rattle.diff_count.specs.declared.Filter.{Filter}
+use Rattle.counts.specs.Counting.{limitedDifferenceOf}
+use Rattle.exports.specs.Told.{limitedTold}
+use Rattle.exports.proofs.Telling.{told-as}
+use borrow.Author.Needs.{needs}
+use Rattle.exports.proofs.zamgulekt_limited_difference.Statement.{statement}
+use Rattle.exports.proofs.zamgulekt_limited_difference.Tie as tie
+
+filter-in-requires : tie.Need-filter-in-requires
+filter-in-requires c κs = search needs
+
+filter-in-requires-2 : tie.Need-filter-in-requires-2
+filter-in-requires-2 c κs = search needs
+
+limited-difference-requires : tie.Need-limited-difference-requires
+limited-difference-requires c κs = search needs
+
+put-limited-requires : tie.Need-put-limited-requires
+put-limited-requires c κs = search needs
+
+returns : tie.Need-returns
+returns c =
+    let t = c .before in
+    let g = t .before in
+    let f = g .before in
+    let a = f .before .before .before .before .before .before .args in
+    told-as
+    (ap limitedTold
+    (t .limited-difference .ensures
+    ∙ ap₂ (λ (x y : Filter). limitedDifferenceOf x (now (a .top)) (now (a .blocks)) y (now (a .top2)) (now (a .blocks2))) (f .filter-in .ensures) (g .filter-in2 .ensures)))
+    (c .put-limited .ensures)
+
+pub zamgulekt-limited-difference-spec : {M : Type 1} → statement M
+zamgulekt-limited-difference-spec =
+    tie.close
+    (tie.spec
+    filter-in-requires
+    filter-in-requires-2
+    limited-difference-requires
+    put-limited-requires
+    returns)

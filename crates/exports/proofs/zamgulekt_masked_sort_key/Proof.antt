@@ -1,0 +1,55 @@
+-- `exports::zamgulekt_masked_sort_key` meets its contract: it tells what `masked_sort_key` answers. Assumes nothing.
+use mathlib.Core.Path.{sym, ap, _∙_}
+use denote.Ref.{now}
+use Rattle.diff_count.specs.declared.Filter.{Filter}
+use Rattle.masked.specs.Calls.{keyFor}
+use Rattle.exports.specs.Told.{keyTold}
+use Rattle.exports.proofs.Telling.{given, refusing}
+use borrow.Author.Needs.{needs}
+use Rattle.exports.proofs.zamgulekt_masked_sort_key.Statement.{statement}
+use Rattle.exports.proofs.zamgulekt_masked_sort_key.Tie as tie
+
+filter-in-requires : tie.Need-filter-in-requires
+filter-in-requires c κs = search needs
+
+masked-sort-key-requires : tie.Need-masked-sort-key-requires
+masked-sort-key-requires c κs = search needs
+
+enum-known-k : tie.Need-enum-known-k
+enum-known-k c = search needs
+
+enum-known-r : tie.Need-enum-known-r
+enum-known-r c = search needs
+
+returns : tie.Need-returns
+unfolding keyTold
+returns c =
+    let t = c .before .before .before in
+    let i = t .before in
+    let a = i .before .before .before .args in
+    given
+    (ap keyTold
+    (sym (t .masked-sort-key .ensures ∙ ap (λ (f : Filter). keyFor f (now (a .top)) (now (a .blocks)) (a .mask) (a .size)) (i .filter-in .ensures))
+    ∙ c .before .k .given .1))
+
+returns-2 : tie.Need-returns-2
+unfolding keyTold
+returns-2 c =
+    let t = c .before .before .before in
+    let i = t .before in
+    let a = i .before .before .before .args in
+    refusing
+    (ap keyTold
+    (sym (t .masked-sort-key .ensures ∙ ap (λ (f : Filter). keyFor f (now (a .top)) (now (a .blocks)) (a .mask) (a .size)) (i .filter-in .ensures))
+    ∙ c .before .r .given .1))
+
+pub zamgulekt-masked-sort-key-spec : {M : Type 1} → statement M
+zamgulekt-masked-sort-key-spec =
+    tie.close
+    (tie.spec
+    filter-in-requires
+    masked-sort-key-requires
+    enum-known-k
+    enum-known-r
+    returns
+    returns-2)

@@ -1,0 +1,57 @@
+-- `exports::zamgulekt_step_at` meets its contract: it tells what `step_at` answers. Assumes nothing.
+use mathlib.Core.Path.{sym, ap, ap₂, _∙_}
+use Rattle.row_reader.specs.declared.Stepped.{Stepped}
+use Rattle.exports.specs.Told.{steppedTold}
+use Rattle.exports.proofs.Telling.{given, refusing}
+use borrow.Author.Needs.{needs}
+use Rattle.exports.proofs.zamgulekt_step_at.Statement.{statement}
+use Rattle.exports.proofs.zamgulekt_step_at.Tie as tie
+
+step-at-requires : tie.Need-step-at-requires
+step-at-requires c κs = search needs
+
+enum-known-answer : tie.Need-enum-known-answer
+enum-known-answer c = search needs
+
+cast-t10 : tie.Need-cast-t10
+cast-t10 c = search needs
+
+enum-told : tie.Need-enum-told
+enum-told c = search needs
+
+enum-known-answer-2 : tie.Need-enum-known-answer-2
+enum-known-answer-2 c = search needs
+
+returns : tie.Need-returns
+unfolding steppedTold
+returns c =
+    let t = c .before .before .before .before in
+    given
+    (ap₂ steppedTold (sym (ap (λ (s : Stepped). s .answer) (t .step-at .ensures)) ∙ c .before .before .answer .given .1) (sym (ap (λ (s : Stepped). s .place) (t .step-at .ensures))))
+
+returns-2 : tie.Need-returns-2
+unfolding steppedTold
+returns-2 c =
+    let t = c .before .before .before in
+    given
+    (ap₂ steppedTold (sym (ap (λ (s : Stepped). s .answer) (t .step-at .ensures)) ∙ c .before .enum-told .given .1) (sym (ap (λ (s : Stepped). s .place) (t .step-at .ensures))))
+
+returns-3 : tie.Need-returns-3
+unfolding steppedTold
+returns-3 c =
+    let t = c .before .before .before in
+    refusing
+    (ap₂ steppedTold (sym (ap (λ (s : Stepped). s .answer) (t .step-at .ensures)) ∙ c .before .answer2 .given .1) (sym (ap (λ (s : Stepped). s .place) (t .step-at .ensures))))
+
+pub zamgulekt-step-at-spec : {M : Type 1} → statement M
+zamgulekt-step-at-spec =
+    tie.close
+    (tie.spec
+    step-at-requires
+    enum-known-answer
+    cast-t10
+    enum-told
+    enum-known-answer-2
+    returns
+    returns-2
+    returns-3)
