@@ -6,7 +6,7 @@ mod config;
 #[allow(dead_code, unused)]
 mod diff_count;
 
-pub use diff_count::OnesMetric as probe;
+pub use diff_count::{GeoDiffMetric as held, OnesMetric as probe};
 
 pub trait Method: Clone + Eq {}
 

@@ -1,6 +1,7 @@
-//! In place of `diff_count/metric.rs`. As a child of `diff_count` it sees what is private there, so the
-//! probe stands here. `diff_count.rs` lets two names of this module out; the probe leaves by the second.
+//! In place of `diff_count/metric.rs`. As a child of `diff_count` it sees what is private there, so the probe
+//! and what is held for timing stand here. They leave by the two names of this module that `diff_count.rs` lets out.
 
+pub mod held;
 pub mod probe;
+pub use held as GeoDiffMetric;
 pub use probe as OnesMetric;
-pub struct GeoDiffMetric;

@@ -26,6 +26,23 @@ pub struct Parts {
     pub blocks: Vec<u64>,
 }
 
+/// A filter that was made: its parts, and its row by `write`.
+#[derive(Debug, PartialEq)]
+pub struct Made {
+    pub parts: Parts,
+    pub row: Vec<u8>,
+}
+
+/// What a configuration tells of itself.
+#[derive(Debug, PartialEq)]
+pub struct Sizes {
+    pub bits_per_level: usize,
+    pub max_msb_len: usize,
+    pub entry_bytes: usize,
+    pub max_bytes: usize,
+    pub bucket_position_bits: u32,
+}
+
 /// `from_ones_with_config`, `from_bytes_with_config`
 fn filter<C: GeoConfig<Diff> + Default>(given: Given<'_>) -> GeoDiffCount<'_, C> {
     match given {
@@ -42,11 +59,24 @@ fn bucket<C: GeoConfig<Diff>>(number: u32) -> C::BucketType {
     bucket
 }
 
+/// What `Direct` takes back to this bucket.
+fn hash<C: GeoConfig<Diff>>(number: u32) -> u64 {
+    bucket::<C>(number).into_usize() as u64
+}
+
 fn written<C: GeoConfig<Diff>>(filter: &GeoDiffCount<'_, C>) -> Vec<u8> {
     let mut row = Vec::new();
     let length = filter.write(&mut row).unwrap();
     assert_eq!(length, row.len(), "write answers another length");
     row
+}
+
+fn made<C: GeoConfig<Diff>>(filter: &GeoDiffCount<'_, C>) -> Made {
+    Made { parts: filter_parts(filter), row: written(filter) }
+}
+
+fn filter_parts<C: GeoConfig<Diff>>(filter: &GeoDiffCount<'_, C>) -> Parts {
+    parts(&filter.msb, filter.lsb.num_bits(), filter.lsb.blocks())
 }
 
 fn parts<T: IsBucketType>(list: &[T], boundary: usize, blocks: &[Unaligned<u64>]) -> Parts {
@@ -79,30 +109,43 @@ macro_rules! by_number {
 }
 
 by_number! {
+    /// The functions of `GeoConfig` with these names
+    fn sizes() -> Sizes {
+        let config = C::default();
+        Sizes {
+            bits_per_level: config.bits_per_level(),
+            max_msb_len: config.max_msb_len(),
+            entry_bytes: size_of::<C::BucketType>(),
+            max_bytes: config.max_bytes(),
+            bucket_position_bits: config.bucket_position_bits(),
+        }
+    }
     /// `write`
     fn row_of(given: Given) -> Vec<u8> { written(&filter::<C>(given)) }
     /// The fields `msb` and `lsb`; `num_bits`, `blocks`
-    fn parts_of(given: Given) -> Parts {
-        let filter = filter::<C>(given);
-        parts(&filter.msb, filter.lsb.num_bits(), filter.lsb.blocks())
-    }
+    fn parts_of(given: Given) -> Parts { filter_parts(&filter::<C>(given)) }
     /// `iter_ones`
     fn ones_of(given: Given) -> Vec<u32> {
         filter::<C>(given).iter_ones().map(|b| b.into_usize() as u32).collect()
     }
-    /// `xor_bit` for each bucket in turn, then `write`
-    fn toggle(given: Given, buckets: &[u32]) -> Vec<u8> {
+    /// `xor_bit` for each bucket in turn
+    fn toggle(given: Given, buckets: &[u32]) -> Made {
         let mut filter = filter::<C>(given);
         buckets.iter().for_each(|&b| filter.xor_bit(bucket::<C>(b)));
-        written(&filter)
+        made(&filter)
     }
-    /// `symmetric_difference`, then `write`
-    fn symmetric_difference(a: Given, b: Given) -> Vec<u8> {
-        written(&GeoDiffCount::symmetric_difference(&filter::<C>(a), &filter::<C>(b)))
+    /// `symmetric_difference`
+    fn symmetric_difference(a: Given, b: Given) -> Made {
+        made(&GeoDiffCount::symmetric_difference(&filter::<C>(a), &filter::<C>(b)))
     }
     /// `cmp_masked`
     fn order(a: Given, b: Given, mask: u64, size: usize) -> Ordering {
         filter::<C>(a).cmp_masked(&filter::<C>(b), mask, size)
+    }
+    /// The order derived for `GeoDiffCount`, in a configuration that has an order, as the three have none
+    fn derived_order(a: Given, b: Given) -> Ordering {
+        let (a, b) = (filter::<Direct<C>>(a), filter::<Direct<C>>(b));
+        a.cmp(&b)
     }
     /// `masked_sort_key`
     fn key(given: Given, mask: u64, size: usize) -> u64 { filter::<C>(given).masked_sort_key(mask, size) }
@@ -129,30 +172,36 @@ by_number! {
         count_ones_from_bitchunks::<C::BucketType>(chunks, config.max_bytes(), config.max_msb_len())
     }
     /// `with_capacity`; `push_hash`, or `extend_by_hashes`, which first raises the split by its own
-    /// estimate, or `raise`. Answers the builder's inside, and the row by `build` and `write`.
-    fn build(split: usize, steps: &[Step]) -> (Parts, Vec<u8>) {
+    /// estimate, or `raise`. Answers the builder's inside, and the filter by `build`.
+    fn build(split: usize, steps: &[Step]) -> (Parts, Made) {
         let mut builder = GeoDiffCountBuilder::with_capacity(Direct(C::default()), 0);
         raise(&mut builder, split);
         for step in steps {
             match step {
-                Step::Push(list) => list.iter().for_each(|&b| builder.push_hash(b.into())),
-                Step::Batch(list) => builder.extend_by_hashes(list.iter().map(|&b| b.into())),
+                Step::Push(list) => list.iter().for_each(|&b| builder.push_hash(hash::<C>(b))),
+                Step::Batch(list) => builder.extend_by_hashes(list.iter().map(|&b| hash::<C>(b))),
                 Step::Raise(to) => raise(&mut builder, *to),
             }
         }
-        (parts(&builder.numbers, builder.split, &builder.blocks), written(&builder.build()))
+        (parts(&builder.numbers, builder.split, &builder.blocks), made(&builder.build()))
     }
 }
 
-/// The configuration `C` with a bucket step that returns its argument.
-#[derive(Clone, PartialEq, Eq)]
-struct Direct<C>(C);
+/// The configuration `C` with a bucket step that returns its argument, and with an order, in which all are equal.
+#[derive(Clone, Default, PartialEq, Eq)]
+pub struct Direct<C>(pub C);
+
+#[rustfmt::skip]
+impl<C: Eq> PartialOrd for Direct<C> { fn partial_cmp(&self, other: &Self) -> Option<Ordering> { Some(self.cmp(other)) } }
+
+#[rustfmt::skip]
+impl<C: Eq> Ord for Direct<C> { fn cmp(&self, _: &Self) -> Ordering { Ordering::Equal } }
 
 #[rustfmt::skip]
 impl<C: GeoConfig<Diff>> GeoConfig<Diff> for Direct<C> {
     type BucketType = C::BucketType;
     type BuildHasher = C::BuildHasher;
-    fn hash_to_bucket(&self, hash: u64) -> C::BucketType { bucket::<C>(hash as u32) }
+    fn hash_to_bucket(&self, hash: u64) -> C::BucketType { C::BucketType::from_usize(hash as usize) }
     fn max_msb_len(&self) -> usize { self.0.max_msb_len() }
     fn max_bytes(&self) -> usize { self.0.max_bytes() }
     fn bits_per_level(&self) -> usize { self.0.bits_per_level() }

@@ -22,14 +22,15 @@ impl Lines {
     }
 
     pub fn toggle(&mut self, set: &[u32], toggles: &[u32]) {
-        let row = probe::toggle(self.config, Ones(set), toggles);
+        let made = probe::toggle(self.config, Ones(set), toggles);
         let read = probe::row_of(self.config, Ones(set));
-        assert_eq!(row, probe::toggle(self.config, Row(&read), toggles));
+        assert_eq!(made, probe::toggle(self.config, Row(&read), toggles));
+        let row = made.row;
         self.line("toggle", &[&list(set), &list(toggles), &hex(&row)]);
     }
 
     pub fn difference(&mut self, a: &[u32], b: &[u32]) {
-        let row = probe::symmetric_difference(self.config, Ones(a), Ones(b));
+        let row = probe::symmetric_difference(self.config, Ones(a), Ones(b)).row;
         let ones = probe::exact_difference(self.config, Ones(a), Ones(b));
         let (count, bound) = probe::limited_difference(self.config, Ones(a), Ones(b));
         assert_eq!(ones, probe::exact(self.config, Row(&row)));
@@ -59,11 +60,11 @@ impl Lines {
     pub fn build(&mut self, split: u32, first: &[u32], to: u32, second: &[u32]) {
         let (from, raise) = (split as usize, Step::Raise(to as usize));
         let steps = [Step::Push(first), raise, Step::Push(second)];
-        let (_, row) = probe::build(self.config, from, &steps);
+        let (_, made) = probe::build(self.config, from, &steps);
         let batches = [Step::Batch(first), Step::Batch(second)];
-        assert_eq!(row, probe::build(self.config, from, &batches).1);
-        assert_eq!(row, probe::toggle(self.config, Ones(first), second));
-        self.line("build", &[&split, &list(first), &to, &list(second), &hex(&row)]);
+        assert_eq!(made, probe::build(self.config, from, &batches).1);
+        assert_eq!(made, probe::toggle(self.config, Ones(first), second));
+        self.line("build", &[&split, &list(first), &to, &list(second), &hex(&made.row)]);
     }
 
     pub fn iterate(&mut self, set: &[u32]) {
