@@ -141,7 +141,8 @@ fn bits_block(blocks: &[u64], n: usize, i: usize) -> u64
 // How many blocks may still hold a member.
 fn reach(top: &[u32], count: usize, n: usize, passed: usize, end: usize) -> usize
     requires { ⌜ (count ≤ length (now top)) × (n < 2 ^ 63) × Ahead (take count (now top)) passed end ⌝ }
-    ensures { λ r. ⌜ ((bits : List ℕ) → length bits ≡ n → Reached (merged (take count (now (top .entry))) 0 bits) (take count (now (top .entry))) passed end r) ⌝ }
+    ensures { λ r. ⌜ ((bits : List ℕ) → length bits ≡ n →
+        Reached (merged (take count (now (top .entry))) 0 bits) (take count (now (top .entry))) passed end r) ⌝ }
 {
     let bits = bits_end(0, n, end);
     if passed < count {
@@ -156,7 +157,8 @@ fn reach(top: &[u32], count: usize, n: usize, passed: usize, end: usize) -> usiz
 // The block of the number i.
 fn merge(top: &[u32], count: usize, blocks: &[u64], n: usize, passed: usize, i: usize) -> Merged
     requires { ⌜ Walks (now top) count (now blocks) n passed (suc i) ⌝ }
-    ensures { λ r. ⌜ Passed (filterSet (now (top .entry)) count (now (blocks .entry)) n) (take count (now (top .entry))) i (r .block) (r .passed) ⌝ }
+    ensures { λ r. ⌜ Passed (filterSet (now (top .entry)) count (now (blocks .entry)) n)
+        (take count (now (top .entry))) i (r .block) (r .passed) ⌝ }
 {
     let mut block = bits_block(blocks, n, i);
     let mut at = passed;
@@ -206,7 +208,9 @@ pub fn next_xor_chunk(
 ) -> NextXor
     requires { ⌜ Walks (now top) count (now blocks) n (from .passed) (from .end) ⌝ }
     requires { ⌜ Walks (now top2) count2 (now blocks2) n2 (from .passed2) (from .end) ⌝ }
-    ensures { λ r. ⌜ NextApart (filterSet (now (top .entry)) count (now (blocks .entry)) n) (filterSet (now (top2 .entry)) count2 (now (blocks2 .entry)) n2) (take count (now (top .entry))) (take count2 (now (top2 .entry))) (from .end) r ⌝ }
+    ensures { λ r. ⌜ NextApart
+        (filterSet (now (top .entry)) count (now (blocks .entry)) n) (filterSet (now (top2 .entry)) count2 (now (blocks2 .entry)) n2)
+        (take count (now (top .entry))) (take count2 (now (top2 .entry))) (from .end) r ⌝ }
 {
     let passed = from.passed;
     let passed2 = from.passed2;
@@ -280,7 +284,8 @@ fn join_entries(
     bits: u64,
 ) -> Merged
     requires { ⌜ ((width ≡ 2) ⊎ (width ≡ 4)) × (count * width ≤ length (now row)) ⌝ }
-    ensures { λ r. ⌜ ((S : Set) → Merging S (numbers width count (now (row .entry))) i passed bits → Passed S (numbers width count (now (row .entry))) i (r .block) (r .passed)) ⌝ }
+    ensures { λ r. ⌜ ((S : Set) → Merging S (numbers width count (now (row .entry))) i passed bits →
+        Passed S (numbers width count (now (row .entry))) i (r .block) (r .passed)) ⌝ }
 {
     let mut joined = bits;
     let mut at = passed;
@@ -341,7 +346,8 @@ pub fn next_row_xor_chunk(
 ) -> NextXor
     requires { ⌜ RowWalks layout (now row) (from .passed) (from .end) ⌝ }
     requires { ⌜ RowWalks layout2 (now row2) (from .passed2) (from .end) ⌝ }
-    ensures { λ r. ⌜ NextApart (rowSet layout (now (row .entry))) (rowSet layout2 (now (row2 .entry))) (entries layout (now (row .entry))) (entries layout2 (now (row2 .entry))) (from .end) r ⌝ }
+    ensures { λ r. ⌜ NextApart (rowSet layout (now (row .entry))) (rowSet layout2 (now (row2 .entry)))
+        (entries layout (now (row .entry))) (entries layout2 (now (row2 .entry))) (from .end) r ⌝ }
 {
     let passed = from.passed;
     let passed2 = from.passed2;
@@ -412,7 +418,8 @@ pub fn next_masked_chunk(
 ) -> NextChunk
     requires { ⌜ Walks (now top) count (now blocks) n (from .passed) (from .end) ⌝ }
     requires { ⌜ (1 ≤ size) × (size ≤ largestMaskSize) × Laid size «block_mask» ⌝ }
-    ensures { λ r. ⌜ NextKept (kept «block_mask» size (filterSet (now (top .entry)) count (now (blocks .entry)) n)) (take count (now (top .entry))) (from .end) r ⌝ }
+    ensures { λ r. ⌜ NextKept (kept «block_mask» size (filterSet (now (top .entry)) count (now (blocks .entry)) n))
+        (take count (now (top .entry))) (from .end) r ⌝ }
 {
     let mut passed = from.passed;
     let mut end = from.end;
@@ -463,7 +470,9 @@ pub fn next_one(
 ) -> NextOne
     requires { ⌜ Walks (now top) count (now blocks) n (from .passed) (from .end) ⌝ }
     requires { ⌜ (1 ≤ size) × (size ≤ largestMaskSize) × Laid size «block_mask» ⌝ }
-    ensures { λ r. ⌜ Gives (kept «block_mask» size (filterSet (now (top .entry)) count (now (blocks .entry)) n)) (take count (now (top .entry))) (rest (kept «block_mask» size (filterSet (now (top .entry)) count (now (blocks .entry)) n)) (from .end) (from .block)) r ⌝ }
+    ensures { λ r. ⌜ Gives (kept «block_mask» size (filterSet (now (top .entry)) count (now (blocks .entry)) n))
+        (take count (now (top .entry)))
+        (rest (kept «block_mask» size (filterSet (now (top .entry)) count (now (blocks .entry)) n)) (from .end) (from .block)) r ⌝ }
 {
     let block = from.block;
     if block != 0 {
@@ -489,7 +498,8 @@ pub fn next_one(
 // The largest member of a row that was not yet given.
 pub fn next_row_one(row: &[u8], layout: Layout, from: Ones) -> NextOne
     requires { ⌜ RowWalks layout (now row) (from .passed) (from .end) ⌝ }
-    ensures { λ r. ⌜ Gives (rowSet layout (now (row .entry))) (entries layout (now (row .entry))) (rest (rowSet layout (now (row .entry))) (from .end) (from .block)) r ⌝ }
+    ensures { λ r. ⌜ Gives (rowSet layout (now (row .entry))) (entries layout (now (row .entry)))
+        (rest (rowSet layout (now (row .entry))) (from .end) (from .block)) r ⌝ }
 {
     let mut block = from.block;
     let mut passed = from.passed;
@@ -514,7 +524,8 @@ pub fn next_row_one(row: &[u8], layout: Layout, from: Ones) -> NextOne
 // The exact count of a filter.
 pub fn exact_count(count: usize, blocks: &[u64], n: usize) -> usize
     requires { ⌜ (count ≤ 2 ^ 32) × (n ≤ length (now blocks)) × (64 * n ≤ 2 ^ 32) ⌝ }
-    ensures { λ r. ⌜ ((m k edge : ℕ) (top : List ℕ) (S : Set) → 0 < m → n ≡ blocksFor edge → Holds m k top (now (blocks .entry)) count edge S → r ≡ exactCount (64 * k) S) ⌝ }
+    ensures { λ r. ⌜ ((m k edge : ℕ) (top : List ℕ) (S : Set) → 0 < m → n ≡ blocksFor edge →
+        Holds m k top (now (blocks .entry)) count edge S → r ≡ exactCount (64 * k) S) ⌝ }
 {
     count + bitvec::count_ones(blocks, 0, n)
 }
@@ -550,7 +561,9 @@ pub fn count_ones_from_msb_and_lsb(
     window: usize,
 ) -> Limited
     requires { ⌜ (count ≤ 2 ^ 32) × (last ≤ 2 ^ 32) × (n ≤ length (now blocks)) × (64 * n ≤ 2 ^ 32) ⌝ }
-    ensures { λ r. ⌜ ((k edge : ℕ) (top : List ℕ) (S : Set) → 0 < m → n ≡ blocksFor edge → Holds m k top (now (blocks .entry)) count edge S → last ≡ lastEntry m (64 * k) S → LimitedTo m (64 * k) window S (r .count) (r .bound)) ⌝ }
+    ensures { λ r. ⌜ ((k edge : ℕ) (top : List ℕ) (S : Set) → 0 < m → n ≡ blocksFor edge →
+        Holds m k top (now (blocks .entry)) count edge S → last ≡ lastEntry m (64 * k) S →
+        LimitedTo m (64 * k) window S (r .count) (r .bound)) ⌝ }
 {
     let low = lsb_index_lower_bound(bitvec::num_blocks(last), window);
     let from = least(low, n);
@@ -576,7 +589,9 @@ fn count_xor_ones(
 ) -> usize
     requires { ⌜ Walks (now top) count (now blocks) n (from .passed) (from .end) ⌝ }
     requires { ⌜ Walks (now top2) count2 (now blocks2) n2 (from .passed2) (from .end) ⌝ }
-    ensures { λ r. ⌜ r ≡ length (members (onward (64 * floor) (apart (filterSet (now (top .entry)) count (now (blocks .entry)) n) (filterSet (now (top2 .entry)) count2 (now (blocks2 .entry)) n2))) (64 * from .end)) ⌝ }
+    ensures { λ r. ⌜ r ≡ length (members (onward (64 * floor) (apart
+        (filterSet (now (top .entry)) count (now (blocks .entry)) n)
+        (filterSet (now (top2 .entry)) count2 (now (blocks2 .entry)) n2))) (64 * from .end)) ⌝ }
 {
     let mut total: usize = 0;
     let mut at = from;
@@ -610,7 +625,8 @@ pub fn exact_xor_count(
 ) -> usize
     requires { ⌜ Walks (now top) count (now blocks) n 0 k ⌝ }
     requires { ⌜ Walks (now top2) count2 (now blocks2) n2 0 k ⌝ }
-    ensures { λ r. ⌜ r ≡ exactCount (64 * k) (apart (filterSet (now (top .entry)) count (now (blocks .entry)) n) (filterSet (now (top2 .entry)) count2 (now (blocks2 .entry)) n2)) ⌝ }
+    ensures { λ r. ⌜ r ≡ exactCount (64 * k) (apart
+        (filterSet (now (top .entry)) count (now (blocks .entry)) n) (filterSet (now (top2 .entry)) count2 (now (blocks2 .entry)) n2)) ⌝ }
 {
     let start = Cursors {
         passed: 0,
@@ -648,7 +664,9 @@ fn first_xor_ones(
     requires { ⌜ Walks (now top) count (now blocks) n (from .passed) (from .end) ⌝ }
     requires { ⌜ Walks (now top2) count2 (now blocks2) n2 (from .passed2) (from .end) ⌝ }
     requires { ⌜ 1 ≤ m ⌝ }
-    ensures { λ r. ⌜ FirstOf (filterSet (now (top .entry)) count (now (blocks .entry)) n) (filterSet (now (top2 .entry)) count2 (now (blocks2 .entry)) n2) (take count (now (top .entry))) (take count2 (now (top2 .entry))) (from .end) m r ⌝ }
+    ensures { λ r. ⌜ FirstOf
+        (filterSet (now (top .entry)) count (now (blocks .entry)) n) (filterSet (now (top2 .entry)) count2 (now (blocks2 .entry)) n2)
+        (take count (now (top .entry))) (take count2 (now (top2 .entry))) (from .end) m r ⌝ }
 {
     let mut total: usize = 0;
     let mut at = from;
@@ -685,7 +703,9 @@ pub fn count_ones_from_bitchunks(
     requires { ⌜ Walks (now top) count (now blocks) n 0 k ⌝ }
     requires { ⌜ Walks (now top2) count2 (now blocks2) n2 0 k ⌝ }
     requires { ⌜ (1 ≤ m) × (1 ≤ window) ⌝ }
-    ensures { λ r. ⌜ LimitedTo m (64 * k) window (apart (filterSet (now (top .entry)) count (now (blocks .entry)) n) (filterSet (now (top2 .entry)) count2 (now (blocks2 .entry)) n2)) (r .count) (r .bound) ⌝ }
+    ensures { λ r. ⌜ LimitedTo m (64 * k) window (apart
+        (filterSet (now (top .entry)) count (now (blocks .entry)) n) (filterSet (now (top2 .entry)) count2 (now (blocks2 .entry)) n2))
+        (r .count) (r .bound) ⌝ }
 {
     let start = Cursors {
         passed: 0,

@@ -155,7 +155,8 @@ pub fn xor(to: &mut [u64], first: &[u64], second: &[u64], k: usize)
 // Clears every bucket at and above the boundary, in the first k blocks.
 pub fn resize(blocks: &mut [u64], boundary: usize, k: usize)
     requires { ⌜ (boundary ≤ 64 * k) × (k ≤ length (now blocks)) ⌝ }
-    ensures { λ _. ⌜ now (blocks .exit) ≡ filled (tabulate k (blockAt (below boundary (held (now (blocks .entry)))))) k (now (blocks .entry)) ⌝ }
+    ensures { λ _. ⌜ now (blocks .exit) ≡
+        filled (tabulate k (blockAt (below boundary (held (now (blocks .entry)))))) k (now (blocks .entry)) ⌝ }
 {
     let mut whole = buckets::into_index(boundary);
     let bit = buckets::into_bit(boundary);
@@ -201,7 +202,8 @@ pub fn write(to: &mut [u8], at: usize, blocks: &[u64], boundary: usize) -> usize
     requires { ⌜ (boundary ≤ 2 ^ 32) × (blocksFor boundary ≤ length (now blocks)) ⌝ }
     requires { ⌜ Empty (held (now blocks)) boundary (64 * blocksFor boundary) ⌝ }
     requires { ⌜ at + length (bitPart boundary (held (now blocks))) ≤ length (now to) ⌝ }
-    ensures { λ r. ⌜ (r ≡ at + length (bitPart boundary (held (now (blocks .entry))))) × (now (to .exit) ≡ sets (now (to .entry)) at (bitPart boundary (held (now (blocks .entry))))) ⌝ }
+    ensures { λ r. ⌜ (r ≡ at + length (bitPart boundary (held (now (blocks .entry)))))
+        × (now (to .exit) ≡ sets (now (to .entry)) at (bitPart boundary (held (now (blocks .entry))))) ⌝ }
 {
     if boundary == 0 {
         return at;
@@ -297,7 +299,8 @@ pub fn lift(top: &mut [u32], blocks: &mut [u64], m: usize, n: usize) -> usize
 pub fn split(top: &mut [u32], blocks: &mut [u64], m: usize, k: usize, n: usize) -> Tally
     requires { ⌜ Room m k (now top) (now blocks) ⌝ }
     requires { ⌜ (n ≤ k) × Empty (held (now blocks)) (64 * n) (64 * k) ⌝ }
-    ensures { λ r. ⌜ SplitOf m k (now (top .entry)) (now (blocks .entry)) (now (top .exit)) (now (blocks .exit)) (r .count) (r .boundary) ⌝ }
+    ensures { λ r. ⌜ SplitOf m k (now (top .entry)) (now (blocks .entry)) (now (top .exit)) (now (blocks .exit))
+        (r .count) (r .boundary) ⌝ }
 {
     let count = lift(top, blocks, m, n);
     zero_cells(top, count, m);

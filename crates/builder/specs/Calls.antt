@@ -91,7 +91,8 @@ raised b pending bits split =
 -- ---- finish
 
 unfoldable pub finishVerdict : Builder → List ℕ → List ℕ → List ℕ → List ℕ → Verdict
-finishVerdict b pending bits top blocks = verdict (builderLent (recordIn b) pending bits ++ holdAreas (configOf b) (length top) (length blocks))
+finishVerdict b pending bits top blocks =
+    verdict (builderLent (recordIn b) pending bits ++ holdAreas (configOf b) (length top) (length blocks))
 
 -- 01: "Finishing writes a filter and leaves the builder as found."
 abbrev pub Finishes : Builder → List ℕ → List ℕ → List ℕ → List ℕ → Made → List ℕ → List ℕ → Type 0

@@ -38,7 +38,8 @@ fn write_filter(
 ) -> Tally
     requires { ⌜ Room m k (now top) (now blocks) ⌝ }
     requires { ⌜ (k ≤ length (now bits)) × (count ≤ length (now pending)) × Below (64 * k) (take count (now pending)) ⌝ }
-    ensures { λ r. ⌜ Becomes m k (builderSet (now (pending .entry)) (now (bits .entry)) count) (now (top .entry)) (now (blocks .entry)) (now (top .exit)) (now (blocks .exit)) (r .count) (r .boundary) ⌝ }
+    ensures { λ r. ⌜ Becomes m k (builderSet (now (pending .entry)) (now (bits .entry)) count)
+        (now (top .entry)) (now (blocks .entry)) (now (top .exit)) (now (blocks .exit)) (r .count) (r .boundary) ⌝ }
 {
     bitvec::copy(blocks, bits, k);
     bitvec::toggle_all(blocks, pending, count);
@@ -69,7 +70,8 @@ pub fn new(config: u64, split: usize, pending: &mut [u32], bits: &mut [u64]) -> 
 impl Builder {
     // The membership of each bucket listed flips, once for each time that it is listed.
     pub fn push(self, pending: &mut [u32], bits: &mut [u64], list: &[u32]) -> Built
-        ensures { λ r. ⌜ Pushes self (now (pending .entry)) (now (bits .entry)) (now (list .entry)) r (now (pending .exit)) (now (bits .exit)) ⌝ }
+        ensures { λ r. ⌜ Pushes self (now (pending .entry)) (now (bits .entry)) (now (list .entry))
+            r (now (pending .exit)) (now (bits .exit)) ⌝ }
     {
         let config = self.config;
         let stage = Stage {
@@ -130,7 +132,8 @@ impl Builder {
 
     // The filter of the builder's set, written to a filter's two areas, whatever these held.
     pub fn finish(self, pending: &[u32], bits: &[u64], top: &mut [u32], blocks: &mut [u64]) -> Made
-        ensures { λ r. ⌜ Finishes self (now (pending .entry)) (now (bits .entry)) (now (top .entry)) (now (blocks .entry)) r (now (top .exit)) (now (blocks .exit)) ⌝ }
+        ensures { λ r. ⌜ Finishes self (now (pending .entry)) (now (bits .entry))
+            (now (top .entry)) (now (blocks .entry)) r (now (top .exit)) (now (blocks .exit)) ⌝ }
     {
         let config = self.config;
         let stage = Stage {

@@ -44,7 +44,8 @@ pub enum TextAnswer {
 fn second_row(m: Mask, f: Filter, top: &[u32], blocks: &[u64], input: &[u8]) -> Judged
     requires { ⌜ (length (now input) ≤ largestInput) × Areas (f .config) ⌝ }
     requires { ⌜ (verdict (filterLent (recordIn f) (now top) (now blocks)) ≡ taken) × (verdict (isMask (m .mask) (m .size)) ≡ taken) ⌝ }
-    ensures { λ r. ⌜ spelled r ≡ printed (judgedSecond (configAt (f .config)) (maskIn m) (shownBy f (now (top .entry)) (now (blocks .entry))) (now (input .entry))) ⌝ }
+    ensures { λ r. ⌜ spelled r ≡ printed (judgedSecond (configAt (f .config)) (maskIn m)
+        (shownBy f (now (top .entry)) (now (blocks .entry))) (now (input .entry))) ⌝ }
 {
     let Found::At(end) = decode::find(input, b'\n') else {
         return Judged::RefusedAt(11, 4);

@@ -38,8 +38,10 @@ limitedOf f top bits = limitedly (verdict (filterLent (recordIn f) top bits)) (c
 
 unfoldable pub exactDifferenceOf : Filter → List ℕ → List ℕ → Filter → List ℕ → List ℕ → CountAnswer
 exactDifferenceOf f top bits g top2 bits2 =
-    exactly (verdict (filtersLent (recordIn f) top bits (recordIn g) top2 bits2)) (configAt (f .config)) (apart (shownBy f top bits) (shownBy g top2 bits2))
+    exactly (verdict (filtersLent (recordIn f) top bits (recordIn g) top2 bits2)) (configAt (f .config))
+    (apart (shownBy f top bits) (shownBy g top2 bits2))
 
 unfoldable pub limitedDifferenceOf : Filter → List ℕ → List ℕ → Filter → List ℕ → List ℕ → LimitedAnswer
 limitedDifferenceOf f top bits g top2 bits2 =
-    limitedly (verdict (filtersLent (recordIn f) top bits (recordIn g) top2 bits2)) (configAt (f .config)) (apart (shownBy f top bits) (shownBy g top2 bits2))
+    limitedly (verdict (filtersLent (recordIn f) top bits (recordIn g) top2 bits2)) (configAt (f .config))
+    (apart (shownBy f top bits) (shownBy g top2 bits2))

@@ -36,4 +36,5 @@ differenceVerdict f top bits g top2 bits2 to toBits =
 
 abbrev pub Differs : Filter → List ℕ → List ℕ → Filter → List ℕ → List ℕ → List ℕ → List ℕ → Made → List ℕ → List ℕ → Type 0
 Differs f top bits g top2 bits2 to toBits =
-    Makes (differenceVerdict f top bits g top2 bits2 to toBits) (configAt (f .config)) (apart (shownBy f top bits) (shownBy g top2 bits2)) to toBits
+    Makes (differenceVerdict f top bits g top2 bits2 to toBits) (configAt (f .config))
+    (apart (shownBy f top bits) (shownBy g top2 bits2)) to toBits

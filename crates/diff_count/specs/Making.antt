@@ -3,13 +3,14 @@ use mathlib.Core.Path.{_≡_}
 use mathlib.Core.List.{List}
 use Prim.Native.Nat.{ℕ, _*_, _≤_, _<_}
 use lib.ListN.{length, getD, drop}
-use Rattle.sets.specs.Sets.{Agree, Below, Empty, Set, apart}
+use Rattle.sets.specs.Sets.{Agree, Below, Empty, Set, apart, flips}
 use Rattle.sets.specs.Words.{held}
 use Rattle.sets.specs.Configurations.{Config}
-use Rattle.sets.specs.Filter.{FilterRecord, recordOf, topSlice, bitSlice}
+use Rattle.sets.specs.Filter.{FilterRecord, recordOf, shown, topSlice, bitSlice}
 use Rattle.sets.specs.Refusals.{Verdict, verdict, answer, filtersLent}
 use Rattle.sizes.specs.Sizes.{refusal}
 use Rattle.sizes.specs.declared.SizesAnswer.{SizesAnswer}
+use Rattle.bitvec.specs.Parts.{Becomes}
 use Rattle.bitvec.specs.declared.Tally.{Tally}
 use Rattle.judge.specs.Judging.{judged}
 use Rattle.diff_count.specs.declared.Filter.{Filter}
@@ -38,6 +39,15 @@ pub record Makes (v : Verdict) (c : Config) (S : Set) (top bits : List ℕ) (r :
   pub blocks : bits′ ≡ answer v (λ n. bits) (bitSlice c S bits)
 
 -- ---- inner functions
+
+-- the set that areas show, by a tally of their top entries and boundary
+abbrev pub shownOf : Tally → List ℕ → List ℕ → Set
+shownOf t top bits = shown top bits (t .count) (t .boundary)
+
+-- the areas show their set flipped by a list
+abbrev pub Flipped : ℕ → ℕ → List ℕ → Tally → List ℕ → List ℕ → Tally → List ℕ → List ℕ → Type 0
+Flipped m k list t top bits r top′ bits′ =
+    Becomes m k (flips list (shownOf t top bits)) top bits top′ bits′ (r .count) (r .boundary)
 
 -- no fewer than `least` and no more than are needed for it and for the buckets listed
 pub record UpTo (list : List ℕ) (least r : ℕ) : Type 0 where

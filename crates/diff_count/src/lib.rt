@@ -3,11 +3,11 @@ ghost use mathlib.Core.Path.{_≡_};
 ghost use mathlib.Core.Bool.{true};
 ghost use Prim.Native.Nat.{_*_, _^_, _≤_};
 ghost use lib.ListN.{length, take};
-ghost use Rattle.sets.specs.Sets.{Below, apart, flips};
-ghost use Rattle.sets.specs.Filter.{isFilter, shown};
+ghost use Rattle.sets.specs.Sets.{Below, apart};
+ghost use Rattle.sets.specs.Filter.{isFilter};
 ghost use Rattle.bitvec.specs.Parts.{Becomes, Room};
 ghost use Rattle.judge.specs.Judging.{filterOf};
-ghost use Rattle.diff_count.specs.Making.{BitsApart, BitsBelow, Led, UpTo, filtersOf, tallyOf};
+ghost use Rattle.diff_count.specs.Making.{BitsApart, BitsBelow, Flipped, Led, UpTo, filtersOf, shownOf, tallyOf};
 ghost use Rattle.diff_count.specs.Calls.{Empties, Toggles, Differs};
 use bitvec::Tally;
 use sizes::Refusal;
@@ -66,7 +66,8 @@ fn flip_and_split(
     requires { ⌜ Room m k (now top) (now blocks) ⌝ }
     requires { ⌜ isFilter m k (now top) (now blocks) (tally .count) (tally .boundary) ≡ true ⌝ }
     requires { ⌜ Below (64 * k) (now list) ⌝ }
-    ensures { λ r. ⌜ Becomes m k (flips (now (list .entry)) (shown (now (top .entry)) (now (blocks .entry)) (tally .count) (tally .boundary))) (now (top .entry)) (now (blocks .entry)) (now (top .exit)) (now (blocks .exit)) (r .count) (r .boundary) ⌝ }
+    ensures { λ r. ⌜ Flipped m k (now (list .entry)) tally (now (top .entry)) (now (blocks .entry))
+        r (now (top .exit)) (now (blocks .exit)) ⌝ }
 {
     let count = tally.count;
     let listed = list.len();
@@ -88,7 +89,8 @@ fn flip_all(
     requires { ⌜ Room m k (now top) (now blocks) ⌝ }
     requires { ⌜ isFilter m k (now top) (now blocks) (tally .count) (tally .boundary) ≡ true ⌝ }
     requires { ⌜ Below (64 * k) (now list) ⌝ }
-    ensures { λ r. ⌜ Becomes m k (flips (now (list .entry)) (shown (now (top .entry)) (now (blocks .entry)) (tally .count) (tally .boundary))) (now (top .entry)) (now (blocks .entry)) (now (top .exit)) (now (blocks .exit)) (r .count) (r .boundary) ⌝ }
+    ensures { λ r. ⌜ Flipped m k (now (list .entry)) tally (now (top .entry)) (now (blocks .entry))
+        r (now (top .exit)) (now (blocks .exit)) ⌝ }
 {
     if judge::all_below(list, tally.boundary) {
         bitvec::toggle_all(blocks, list, list.len());
@@ -137,7 +139,11 @@ fn xor(
     requires { ⌜ Room m k (now «to_top») (now «to_blocks») ⌝ }
     requires { ⌜ isFilter m k (now top) (now blocks) (tally .count) (tally .boundary) ≡ true ⌝ }
     requires { ⌜ isFilter m k (now top2) (now blocks2) (tally2 .count) (tally2 .boundary) ≡ true ⌝ }
-    ensures { λ r. ⌜ Becomes m k (apart (shown (now (top .entry)) (now (blocks .entry)) (tally .count) (tally .boundary)) (shown (now (top2 .entry)) (now (blocks2 .entry)) (tally2 .count) (tally2 .boundary))) (now («to_top» .entry)) (now («to_blocks» .entry)) (now («to_top» .exit)) (now («to_blocks» .exit)) (r .count) (r .boundary) ⌝ }
+    ensures { λ r. ⌜ Becomes m k
+        (apart (shownOf tally (now (top .entry)) (now (blocks .entry)))
+        (shownOf tally2 (now (top2 .entry)) (now (blocks2 .entry))))
+        (now («to_top» .entry)) (now («to_blocks» .entry)) (now («to_top» .exit)) (now («to_blocks» .exit))
+        (r .count) (r .boundary) ⌝ }
 {
     let count = tally.count;
     let count2 = tally2.count;
@@ -225,7 +231,8 @@ pub fn empty(config: u64, top: &mut [u32], blocks: &mut [u64]) -> Made
 impl Filter {
     // The membership of each bucket listed flips, once for each time that it is listed.
     pub fn toggle(self, top: &mut [u32], blocks: &mut [u64], list: &[u32]) -> Made
-        ensures { λ r. ⌜ Toggles self (now (top .entry)) (now (blocks .entry)) (now (list .entry)) r (now (top .exit)) (now (blocks .exit)) ⌝ }
+        ensures { λ r. ⌜ Toggles self (now (top .entry)) (now (blocks .entry)) (now (list .entry))
+            r (now (top .exit)) (now (blocks .exit)) ⌝ }
     {
         let config = self.config;
         let tally = Tally {
@@ -260,7 +267,8 @@ pub fn symmetric_difference(
     to_top: &mut [u32],
     to_blocks: &mut [u64],
 ) -> Made
-    ensures { λ r. ⌜ Differs a (now (top .entry)) (now (blocks .entry)) b (now (top2 .entry)) (now (blocks2 .entry)) (now («to_top» .entry)) (now («to_blocks» .entry)) r (now («to_top» .exit)) (now («to_blocks» .exit)) ⌝ }
+    ensures { λ r. ⌜ Differs a (now (top .entry)) (now (blocks .entry)) b (now (top2 .entry)) (now (blocks2 .entry))
+        (now («to_top» .entry)) (now («to_blocks» .entry)) r (now («to_top» .exit)) (now («to_blocks» .exit)) ⌝ }
 {
     let config = a.config;
     let tally = Tally {

@@ -64,7 +64,9 @@ pub fn put_hex(out: &mut [u8], at: usize, n: u64) -> usize
 // A line: its word, numbers with a space before each, and a newline.
 pub fn put_line(out: &mut [u8], at: usize, word: &[u8], numbers: &[u64]) -> usize
     requires { ⌜ at + length (now word) + 21 * length (now numbers) + 1 ≤ length (now out) ⌝ }
-    ensures { λ r. ⌜ Puts (length (now (word .entry)) + 21 * length (now (numbers .entry)) + 1) (now (word .entry) ++ fields (map toDecimal (now (numbers .entry)))) (now (out .entry)) at (now (out .exit)) r ⌝ }
+    ensures { λ r. ⌜ Puts (length (now (word .entry)) + 21 * length (now (numbers .entry)) + 1)
+        (now (word .entry) ++ fields (map toDecimal (now (numbers .entry))))
+        (now (out .entry)) at (now (out .exit)) r ⌝ }
 {
     let mut end = put(out, at, word);
     let mut i = 0;

@@ -6,17 +6,26 @@ use Prim.Native.Nat.{ℕ}
 use lib.Dec.{eqb}
 use lib.ListN.{getD}
 use denote.Ref.{RefT}
+use Rattle.diff_count.specs.declared.Made.{Made}
+use Rattle.builder.specs.declared.Built.{Built}
 use Rattle.row_reader.specs.Reading.{stepAnswer, stepPlace}
 use Rattle.row_reader.specs.declared.RowStep.{RowStep}
 use Rattle.row_reader.specs.declared.RowStep.the-variants as steps
 use Rattle.row_order.specs.Calls.{Seen, seen}
-use Rattle.exports.specs.Told.{Told, gives, refuses, Tells, stepTold}
+use Rattle.exports.specs.Told.{Told, gives, refuses, Tells, builtTold, madeTold, stepTold}
 
 -- the call that is wrapped gave an answer, which is what is told
 pub record Wraps (A : Type 0) (told : A → Told) (Promise : A → Type 0) (cells : List ℕ) (r : ℕ) (cells′ : List ℕ) : Type 0 where
   pub answer : A
   pub keeps : Promise answer
   pub tells : Tells (told answer) cells r cells′
+
+-- of a call that makes a filter, and of one that makes a builder
+abbrev pub MakesFilter : (Made → Type 0) → List ℕ → ℕ → List ℕ → Type 0
+MakesFilter = Wraps Made madeTold
+
+abbrev pub MakesBuilder : (Built → Type 0) → List ℕ → ℕ → List ℕ → Type 0
+MakesBuilder = Wraps Built builtTold
 
 -- the row that is named, or the first's empty beginning
 abbrev pub rowNamed : Told → RefT (List ℕ) → RefT (List ℕ) → Seen
@@ -32,4 +41,5 @@ readerAfter reader (steps.Refused r) place = reader
 
 pub record Steps (reader row step : List ℕ) (r : ℕ) (reader′ step′ : List ℕ) : Type 0 where
   pub tells : Tells (stepTold (stepAnswer (getD reader 0 0) row (getD reader 1 0))) step r step′
-  pub moves : reader′ ≡ readerAfter reader (stepAnswer (getD reader 0 0) row (getD reader 1 0)) (stepPlace (getD reader 0 0) row (getD reader 1 0))
+  pub moves : reader′ ≡
+      readerAfter reader (stepAnswer (getD reader 0 0) row (getD reader 1 0)) (stepPlace (getD reader 0 0) row (getD reader 1 0))

@@ -4,9 +4,7 @@ ghost use mathlib.Core.Path.{_≡_};
 ghost use mathlib.Core.List.{[], _∷_};
 ghost use Rattle.sizes.specs.Sizes.{sizesOf};
 ghost use Rattle.diff_count.specs.Calls.{Empties, Toggles, Differs};
-ghost use Rattle.diff_count.specs.declared.Made.{Made};
 ghost use Rattle.builder.specs.Calls.{News, Pushes, Finishes, raised};
-ghost use Rattle.builder.specs.declared.Built.{Built};
 ghost use Rattle.counts.specs.Counting.{exactOf, limitedOf, exactDifferenceOf, limitedDifferenceOf};
 ghost use Rattle.masked.specs.Calls.{cmpOf, keyFor};
 ghost use Rattle.rows.specs.Calls.{Reads, Writes, openOf};
@@ -15,8 +13,9 @@ ghost use Rattle.row_order.specs.Calls.{cmpRowsOf, greaterOf};
 ghost use Rattle.row_reader.specs.Reading.{stepAnswer, stepPlace};
 ghost use Rattle.compare_text.specs.Answers.{Compares};
 ghost use Rattle.compare_text.specs.declared.TextAnswer.{TextAnswer};
-ghost use Rattle.exports.specs.Told.{Tells, builderIn, builtTold, countTold, filterIn, gives, greaterTold, keyTold, limitedTold, madeTold, openTold, orderNumbered, sizesTold, steppedTold, textTold, writeTold};
-ghost use Rattle.exports.specs.Calls.{Steps, Wraps, rowNamed};
+ghost use Rattle.exports.specs.Told.{Tells, builderIn, filterIn, gives, builtTold, countTold, greaterTold, keyTold, limitedTold};
+ghost use Rattle.exports.specs.Told.{madeTold, openTold, orderNumbered, sizesTold, steppedTold, textTold, writeTold};
+ghost use Rattle.exports.specs.Calls.{MakesBuilder, MakesFilter, Steps, Wraps, rowNamed};
 use builder::Builder;
 use builder::Built;
 use compare_text::TextAnswer;
@@ -170,7 +169,9 @@ pub extern "C" fn zamgulekt_empty(
     top: &mut [u32],
     blocks: &mut [u64],
 ) -> u8
-    ensures { λ r. ⌜ Wraps Made madeTold (λ answer. Empties config (now (top .entry)) (now (blocks .entry)) answer (now (top .exit)) (now (blocks .exit))) (now («record» .entry)) r (now («record» .exit)) ⌝ }
+    ensures { λ r. ⌜ MakesFilter
+        (λ answer. Empties config (now (top .entry)) (now (blocks .entry)) answer (now (top .exit)) (now (blocks .exit)))
+        (now («record» .entry)) r (now («record» .exit)) ⌝ }
 {
     put_made(record, diff_count::empty(config, top, blocks))
 }
@@ -182,7 +183,10 @@ pub extern "C" fn zamgulekt_toggle(
     blocks: &mut [u64],
     list: &[u32],
 ) -> u8
-    ensures { λ r. ⌜ Wraps Made madeTold (λ answer. Toggles (filterIn (now («record» .entry))) (now (top .entry)) (now (blocks .entry)) (now (list .entry)) answer (now (top .exit)) (now (blocks .exit))) (now («record» .entry)) r (now («record» .exit)) ⌝ }
+    ensures { λ r. ⌜ MakesFilter
+        (λ answer. Toggles (filterIn (now («record» .entry))) (now (top .entry)) (now (blocks .entry)) (now (list .entry))
+        answer (now (top .exit)) (now (blocks .exit)))
+        (now («record» .entry)) r (now («record» .exit)) ⌝ }
 {
     let f = filter_in(record);
     put_made(record, f.toggle(top, blocks, list))
@@ -200,7 +204,11 @@ pub extern "C" fn zamgulekt_symmetric_difference(
     to_top: &mut [u32],
     to_blocks: &mut [u64],
 ) -> u8
-    ensures { λ r. ⌜ Wraps Made madeTold (λ answer. Differs (filterIn (now (a .entry))) (now (top .entry)) (now (blocks .entry)) (filterIn (now (b .entry))) (now (top2 .entry)) (now (blocks2 .entry)) (now («to_top» .entry)) (now («to_blocks» .entry)) answer (now («to_top» .exit)) (now («to_blocks» .exit))) (now (to .entry)) r (now (to .exit)) ⌝ }
+    ensures { λ r. ⌜ MakesFilter
+        (λ answer. Differs (filterIn (now (a .entry))) (now (top .entry)) (now (blocks .entry))
+        (filterIn (now (b .entry))) (now (top2 .entry)) (now (blocks2 .entry))
+        (now («to_top» .entry)) (now («to_blocks» .entry)) answer (now («to_top» .exit)) (now («to_blocks» .exit)))
+        (now (to .entry)) r (now (to .exit)) ⌝ }
 {
     let f = filter_in(a);
     let g = filter_in(b);
@@ -218,7 +226,9 @@ pub extern "C" fn zamgulekt_builder_new(
     pending: &mut [u32],
     bits: &mut [u64],
 ) -> u8
-    ensures { λ r. ⌜ Wraps Built builtTold (λ answer. News config split (now (pending .entry)) (now (bits .entry)) answer (now (pending .exit)) (now (bits .exit))) (now (builder .entry)) r (now (builder .exit)) ⌝ }
+    ensures { λ r. ⌜ MakesBuilder
+        (λ answer. News config split (now (pending .entry)) (now (bits .entry)) answer (now (pending .exit)) (now (bits .exit)))
+        (now (builder .entry)) r (now (builder .exit)) ⌝ }
 {
     put_built(builder, builder::new(config, split, pending, bits))
 }
@@ -230,7 +240,10 @@ pub extern "C" fn zamgulekt_builder_push(
     bits: &mut [u64],
     list: &[u32],
 ) -> u8
-    ensures { λ r. ⌜ Wraps Built builtTold (λ answer. Pushes (builderIn (now (builder .entry))) (now (pending .entry)) (now (bits .entry)) (now (list .entry)) answer (now (pending .exit)) (now (bits .exit))) (now (builder .entry)) r (now (builder .exit)) ⌝ }
+    ensures { λ r. ⌜ MakesBuilder
+        (λ answer. Pushes (builderIn (now (builder .entry))) (now (pending .entry)) (now (bits .entry)) (now (list .entry))
+        answer (now (pending .exit)) (now (bits .exit)))
+        (now (builder .entry)) r (now (builder .exit)) ⌝ }
 {
     let b = builder_in(builder);
     put_built(builder, b.push(pending, bits, list))
@@ -243,7 +256,8 @@ pub extern "C" fn zamgulekt_builder_raise(
     bits: &[u64],
     to: usize,
 ) -> u8
-    ensures { λ r. ⌜ Tells (builtTold (raised (builderIn (now (builder .entry))) (now (pending .entry)) (now (bits .entry)) to)) (now (builder .entry)) r (now (builder .exit)) ⌝ }
+    ensures { λ r. ⌜ Tells (builtTold (raised (builderIn (now (builder .entry))) (now (pending .entry)) (now (bits .entry)) to))
+        (now (builder .entry)) r (now (builder .exit)) ⌝ }
 {
     let b = builder_in(builder);
     put_built(builder, b.raise(pending, bits, to))
@@ -258,7 +272,10 @@ pub extern "C" fn zamgulekt_builder_finish(
     top: &mut [u32],
     blocks: &mut [u64],
 ) -> u8
-    ensures { λ r. ⌜ Wraps Made madeTold (λ answer. Finishes (builderIn (now (builder .entry))) (now (pending .entry)) (now (bits .entry)) (now (top .entry)) (now (blocks .entry)) answer (now (top .exit)) (now (blocks .exit))) (now («record» .entry)) r (now («record» .exit)) ⌝ }
+    ensures { λ r. ⌜ MakesFilter
+        (λ answer. Finishes (builderIn (now (builder .entry))) (now (pending .entry)) (now (bits .entry))
+        (now (top .entry)) (now (blocks .entry)) answer (now (top .exit)) (now (blocks .exit)))
+        (now («record» .entry)) r (now («record» .exit)) ⌝ }
 {
     let b = builder_in(builder);
     put_made(record, b.finish(pending, bits, top, blocks))
@@ -271,7 +288,8 @@ pub extern "C" fn zamgulekt_exact_count(
     blocks: &[u64],
     count: &mut u64,
 ) -> u8
-    ensures { λ r. ⌜ Tells (countTold (exactOf (filterIn (now («record» .entry))) (now (top .entry)) (now (blocks .entry)))) (now (count .entry) ∷ []) r (now (count .exit) ∷ []) ⌝ }
+    ensures { λ r. ⌜ Tells (countTold (exactOf (filterIn (now («record» .entry))) (now (top .entry)) (now (blocks .entry))))
+        (now (count .entry) ∷ []) r (now (count .exit) ∷ []) ⌝ }
 {
     put_count(count, counts::exact_count(filter_in(record), top, blocks))
 }
@@ -283,7 +301,8 @@ pub extern "C" fn zamgulekt_limited_count(
     blocks: &[u64],
     limited: &mut [u64; LIMITED],
 ) -> u8
-    ensures { λ r. ⌜ Tells (limitedTold (limitedOf (filterIn (now («record» .entry))) (now (top .entry)) (now (blocks .entry)))) (now (limited .entry)) r (now (limited .exit)) ⌝ }
+    ensures { λ r. ⌜ Tells (limitedTold (limitedOf (filterIn (now («record» .entry))) (now (top .entry)) (now (blocks .entry))))
+        (now (limited .entry)) r (now (limited .exit)) ⌝ }
 {
     put_limited(
         limited,
@@ -301,7 +320,9 @@ pub extern "C" fn zamgulekt_exact_difference(
     blocks2: &[u64],
     count: &mut u64,
 ) -> u8
-    ensures { λ r. ⌜ Tells (countTold (exactDifferenceOf (filterIn (now (a .entry))) (now (top .entry)) (now (blocks .entry)) (filterIn (now (b .entry))) (now (top2 .entry)) (now (blocks2 .entry)))) (now (count .entry) ∷ []) r (now (count .exit) ∷ []) ⌝ }
+    ensures { λ r. ⌜ Tells (countTold (exactDifferenceOf (filterIn (now (a .entry))) (now (top .entry)) (now (blocks .entry))
+        (filterIn (now (b .entry))) (now (top2 .entry)) (now (blocks2 .entry))))
+        (now (count .entry) ∷ []) r (now (count .exit) ∷ []) ⌝ }
 {
     put_count(
         count,
@@ -319,7 +340,9 @@ pub extern "C" fn zamgulekt_limited_difference(
     blocks2: &[u64],
     limited: &mut [u64; LIMITED],
 ) -> u8
-    ensures { λ r. ⌜ Tells (limitedTold (limitedDifferenceOf (filterIn (now (a .entry))) (now (top .entry)) (now (blocks .entry)) (filterIn (now (b .entry))) (now (top2 .entry)) (now (blocks2 .entry)))) (now (limited .entry)) r (now (limited .exit)) ⌝ }
+    ensures { λ r. ⌜ Tells (limitedTold (limitedDifferenceOf (filterIn (now (a .entry))) (now (top .entry)) (now (blocks .entry))
+        (filterIn (now (b .entry))) (now (top2 .entry)) (now (blocks2 .entry))))
+        (now (limited .entry)) r (now (limited .exit)) ⌝ }
 {
     put_limited(
         limited,
@@ -339,7 +362,9 @@ pub extern "C" fn zamgulekt_cmp_masked(
     size: usize,
     order: &mut u64,
 ) -> u8
-    ensures { λ r. ⌜ Tells (orderNumbered (cmpOf (filterIn (now (a .entry))) (now (top .entry)) (now (blocks .entry)) (filterIn (now (b .entry))) (now (top2 .entry)) (now (blocks2 .entry)) mask size)) (now (order .entry) ∷ []) r (now (order .exit) ∷ []) ⌝ }
+    ensures { λ r. ⌜ Tells (orderNumbered (cmpOf (filterIn (now (a .entry))) (now (top .entry)) (now (blocks .entry))
+        (filterIn (now (b .entry))) (now (top2 .entry)) (now (blocks2 .entry)) mask size))
+        (now (order .entry) ∷ []) r (now (order .exit) ∷ []) ⌝ }
 {
     put_order(
         order,
@@ -365,7 +390,8 @@ pub extern "C" fn zamgulekt_masked_sort_key(
     size: usize,
     key: &mut u64,
 ) -> u8
-    ensures { λ r. ⌜ Tells (keyTold (keyFor (filterIn (now («record» .entry))) (now (top .entry)) (now (blocks .entry)) mask size)) (now (key .entry) ∷ []) r (now (key .exit) ∷ []) ⌝ }
+    ensures { λ r. ⌜ Tells (keyTold (keyFor (filterIn (now («record» .entry))) (now (top .entry)) (now (blocks .entry)) mask size))
+        (now (key .entry) ∷ []) r (now (key .exit) ∷ []) ⌝ }
 {
     match masked::masked_sort_key(filter_in(record), top, blocks, mask, size) {
         KeyAnswer::Key(k) => {
@@ -384,7 +410,10 @@ pub extern "C" fn zamgulekt_write(
     row: &mut [u8],
     length: &mut u64,
 ) -> u8
-    ensures { λ r. ⌜ Wraps WriteAnswer writeTold (λ answer. Writes (filterIn (now («record» .entry))) (now (top .entry)) (now (blocks .entry)) (now (row .entry)) answer (now (row .exit))) (now («length» .entry) ∷ []) r (now («length» .exit) ∷ []) ⌝ }
+    ensures { λ r. ⌜ Wraps WriteAnswer writeTold
+        (λ answer. Writes (filterIn (now («record» .entry))) (now (top .entry)) (now (blocks .entry)) (now (row .entry))
+        answer (now (row .exit)))
+        (now («length» .entry) ∷ []) r (now («length» .exit) ∷ []) ⌝ }
 {
     match rows::write(filter_in(record), top, blocks, row) {
         WriteAnswer::Written(len) => {
@@ -403,7 +432,9 @@ pub extern "C" fn zamgulekt_read(
     top: &mut [u32],
     blocks: &mut [u64],
 ) -> u8
-    ensures { λ r. ⌜ Wraps Made madeTold (λ answer. Reads config (now (row .entry)) (now (top .entry)) (now (blocks .entry)) answer (now (top .exit)) (now (blocks .exit))) (now («record» .entry)) r (now («record» .exit)) ⌝ }
+    ensures { λ r. ⌜ MakesFilter
+        (λ answer. Reads config (now (row .entry)) (now (top .entry)) (now (blocks .entry)) answer (now (top .exit)) (now (blocks .exit)))
+        (now («record» .entry)) r (now («record» .exit)) ⌝ }
 {
     put_made(record, rows::read(config, row, top, blocks))
 }
@@ -430,7 +461,8 @@ pub extern "C" fn zamgulekt_cmp_rows(
     second: &[u8],
     order: &mut u64,
 ) -> u8
-    ensures { λ r. ⌜ Tells (orderNumbered (cmpRowsOf config mask size (now (first .entry)) (now (second .entry)))) (now (order .entry) ∷ []) r (now (order .exit) ∷ []) ⌝ }
+    ensures { λ r. ⌜ Tells (orderNumbered (cmpRowsOf config mask size (now (first .entry)) (now (second .entry))))
+        (now (order .entry) ∷ []) r (now (order .exit) ∷ []) ⌝ }
 {
     put_order(
         order,
@@ -448,7 +480,11 @@ pub extern "C" fn zamgulekt_greater_row(
     second: &[u8],
     which: &mut u64,
 ) -> u8
-    ensures { λ r. ⌜ Tells (greaterTold (cmpRowsOf config mask size (now (first .entry)) (now (second .entry)))) (now (which .entry) ∷ []) r (now (which .exit) ∷ []) × (greaterOf config mask size (first .entry) (second .entry) ≡ rowNamed (greaterTold (cmpRowsOf config mask size (now (first .entry)) (now (second .entry)))) (first .entry) (second .entry)) ⌝ }
+    ensures { λ r. ⌜ Tells (greaterTold (cmpRowsOf config mask size (now (first .entry)) (now (second .entry))))
+        (now (which .entry) ∷ []) r (now (which .exit) ∷ [])
+        × (greaterOf config mask size (first .entry) (second .entry) ≡
+        rowNamed (greaterTold (cmpRowsOf config mask size (now (first .entry)) (now (second .entry))))
+        (first .entry) (second .entry)) ⌝ }
 {
     match row_order::cmp_rows(config, mask, size, first, second) {
         OrderAnswer::Less => {
@@ -512,7 +548,8 @@ pub extern "C" fn zamgulekt_step_at(
     place: usize,
     stepped: &mut [u64; STEPPED],
 ) -> u8
-    ensures { λ r. ⌜ Tells (steppedTold (stepAnswer config (now (row .entry)) place) (stepPlace config (now (row .entry)) place)) (now (stepped .entry)) r (now (stepped .exit)) ⌝ }
+    ensures { λ r. ⌜ Tells (steppedTold (stepAnswer config (now (row .entry)) place) (stepPlace config (now (row .entry)) place))
+        (now (stepped .entry)) r (now (stepped .exit)) ⌝ }
 {
     let next = row_reader::step_at(row, config, place);
     let answer = next.answer;
@@ -531,7 +568,9 @@ pub extern "C" fn zamgulekt_step_at(
 
 #[no_mangle]
 pub extern "C" fn zamgulekt_compare_text(input: &[u8], text: &mut [u8], length: &mut u64) -> u8
-    ensures { λ r. ⌜ Wraps TextAnswer textTold (λ answer. Compares (now (input .entry)) (now (text .entry)) answer (now (text .exit))) (now («length» .entry) ∷ []) r (now («length» .exit) ∷ []) ⌝ }
+    ensures { λ r. ⌜ Wraps TextAnswer textTold
+        (λ answer. Compares (now (input .entry)) (now (text .entry)) answer (now (text .exit)))
+        (now («length» .entry) ∷ []) r (now («length» .exit) ∷ []) ⌝ }
 {
     match compare_text::compare_text(input, text) {
         TextAnswer::Written(n) => {

@@ -118,7 +118,8 @@ pub fn figures_of(
     size: usize,
 ) -> Figures
     requires { ⌜ cmpVerdict f (now top) (now blocks) g (now top2) (now blocks2) mask size ≡ taken ⌝ }
-    ensures { λ r. ⌜ r ≡ figuresOf (configAt (f .config)) mask size (shownBy f (now (top .entry)) (now (blocks .entry))) (shownBy g (now (top2 .entry)) (now (blocks2 .entry))) ⌝ }
+    ensures { λ r. ⌜ r ≡ figuresOf (configAt (f .config)) mask size
+        (shownBy f (now (top .entry)) (now (blocks .entry))) (shownBy g (now (top2 .entry)) (now (blocks2 .entry))) ⌝ }
 {
     let first = single_for(f, top, blocks, mask, size);
     let second = single_for(g, top2, blocks2, mask, size);

@@ -158,7 +158,8 @@ pub fn two_filters(
     to_top: usize,
     to_blocks: usize,
 ) -> SizesAnswer
-    ensures { λ r. ⌜ r ≡ twoOf config tally (now (top .entry)) (now (blocks .entry)) config2 tally2 (now (top2 .entry)) (now (blocks2 .entry)) «to_top» «to_blocks» ⌝ }
+    ensures { λ r. ⌜ r ≡ twoOf config tally (now (top .entry)) (now (blocks .entry))
+        config2 tally2 (now (top2 .entry)) (now (blocks2 .entry)) «to_top» «to_blocks» ⌝ }
 {
     let SizesAnswer::Known(s) = sizes::sizes_of(config) else {
         return SizesAnswer::Refused(Refusal { number: 1 });

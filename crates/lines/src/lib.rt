@@ -103,7 +103,8 @@ pub fn mask_line(line: &[u8]) -> MaskLine
 pub fn row_line(config: u64, line: &[u8], top: &mut [u32], blocks: &mut [u64]) -> Made
     requires { ⌜ length (now line) ≤ largestInput ⌝ }
     requires { ⌜ verdict (areasLent config (length (now top)) (length (now blocks))) ≡ taken ⌝ }
-    ensures { λ r. ⌜ ReadsLine config (now (line .entry)) (now (top .entry)) (now (blocks .entry)) r (now (top .exit)) (now (blocks .exit)) ⌝ }
+    ensures { λ r. ⌜ ReadsLine config (now (line .entry)) (now (top .entry)) (now (blocks .entry))
+        r (now (top .exit)) (now (blocks .exit)) ⌝ }
 {
     // half of the largest input
     let mut row = [0u8; 20000];

@@ -19,14 +19,17 @@ cmpVerdict f top bits g top2 bits2 mask size = verdict (filtersLent (recordIn f)
 -- 01, "Order": the largest kept bucket held by exactly one filter decides
 unfoldable pub cmpOf : Filter → List ℕ → List ℕ → Filter → List ℕ → List ℕ → ℕ → ℕ → OrderAnswer
 cmpOf f top bits g top2 bits2 mask size =
-    orderAnswer (cmpVerdict f top bits g top2 bits2 mask size) (orderOf (W (configAt (f .config))) mask size (shownBy f top bits) (shownBy g top2 bits2))
+    orderAnswer (cmpVerdict f top bits g top2 bits2 mask size)
+    (orderOf (W (configAt (f .config))) mask size (shownBy f top bits) (shownBy g top2 bits2))
 
 -- 10 is the last of the tests
 unfoldable pub keyVerdict : Filter → List ℕ → List ℕ → ℕ → ℕ → Verdict
 keyVerdict f top bits mask size =
-    verdict (filterLent (recordIn f) top bits ++ (isMask mask size ++ (fitsSlots (configAt (f .config)) mask size (shownBy f top bits) ∷ [])))
+    verdict (filterLent (recordIn f) top bits
+    ++ (isMask mask size ++ (fitsSlots (configAt (f .config)) mask size (shownBy f top bits) ∷ [])))
 
 -- 01, "Key": the kept buckets in their slots
 unfoldable pub keyFor : Filter → List ℕ → List ℕ → ℕ → ℕ → KeyAnswer
 keyFor f top bits mask size =
-    answer (keyVerdict f top bits mask size) (λ n. keys.Refused (refusal n)) (keys.Key (keyOf (configAt (f .config)) mask size (shownBy f top bits)))
+    answer (keyVerdict f top bits mask size) (λ n. keys.Refused (refusal n))
+    (keys.Key (keyOf (configAt (f .config)) mask size (shownBy f top bits)))

@@ -51,7 +51,9 @@ fn deciding_block(
     requires { ⌜ Walks (now top) count (now blocks) n 0 k ⌝ }
     requires { ⌜ Walks (now top2) count2 (now blocks2) n2 0 k ⌝ }
     requires { ⌜ (1 ≤ size) × (size ≤ largestMaskSize) × Laid size «block_mask» ⌝ }
-    ensures { λ r. ⌜ Decides «block_mask» size (filterSet (now (top .entry)) count (now (blocks .entry)) n) (filterSet (now (top2 .entry)) count2 (now (blocks2 .entry)) n2) k r ⌝ }
+    ensures { λ r. ⌜ Decides «block_mask» size
+        (filterSet (now (top .entry)) count (now (blocks .entry)) n)
+        (filterSet (now (top2 .entry)) count2 (now (blocks2 .entry)) n2) k r ⌝ }
 {
     let mut at = Cursors {
         passed: 0,
@@ -108,7 +110,8 @@ fn order(
     requires { ⌜ Walks (now top) count (now blocks) n 0 k ⌝ }
     requires { ⌜ Walks (now top2) count2 (now blocks2) n2 0 k ⌝ }
     requires { ⌜ (1 ≤ size) × (size ≤ largestMaskSize) × Laid size «block_mask» ⌝ }
-    ensures { λ r. ⌜ r ≡ orderTold (orderOf (64 * k) «block_mask» size (filterSet (now (top .entry)) count (now (blocks .entry)) n) (filterSet (now (top2 .entry)) count2 (now (blocks2 .entry)) n2)) ⌝ }
+    ensures { λ r. ⌜ r ≡ orderTold (orderOf (64 * k) «block_mask» size
+        (filterSet (now (top .entry)) count (now (blocks .entry)) n) (filterSet (now (top2 .entry)) count2 (now (blocks2 .entry)) n2)) ⌝ }
 {
     order_by(deciding_block(
         top,
@@ -139,7 +142,8 @@ fn pack(
     requires { ⌜ Walks (now top) count (now blocks) n 0 k ⌝ }
     requires { ⌜ (1 ≤ size) × (size ≤ largestMaskSize) × Laid size «block_mask» ⌝ }
     requires { ⌜ (1 ≤ bits) × (bits ≤ 63) ⌝ }
-    ensures { λ r. ⌜ r ≡ keyTold bits (members (kept «block_mask» size (filterSet (now (top .entry)) count (now (blocks .entry)) n)) (64 * k)) ⌝ }
+    ensures { λ r. ⌜ r ≡ keyTold bits
+        (members (kept «block_mask» size (filterSet (now (top .entry)) count (now (blocks .entry)) n)) (64 * k)) ⌝ }
 {
     let limit: usize = 1 << bits;
     let mut key: u64 = 0;

@@ -38,7 +38,8 @@ Stays m list s r = s .count + atOrAbove (s .split) list ≤ 2 * m → (r .split 
 abbrev pub heldFrom : ℕ → List ℕ → ℕ → ℕ
 heldFrom k bits split = length (members (onward split (held bits)) (64 * k))
 
--- 01: "the split rises by 2^B, never past W, until at most M are at or above it": these are counted, and at each level before there are more
+-- 01: "the split rises by 2^B, never past W, until at most M are at or above it": these are counted, and at each level before
+-- there are more
 pub record Settled (m k level : ℕ) (bits : List ℕ) (split : ℕ) (r : Stage) : Type 0 where
   pub rises : Rises level (64 * k) split (r .split)
   pub low : r .split ≤ 64 * k

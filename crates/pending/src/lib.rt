@@ -59,7 +59,8 @@ fn compact(
     requires { ⌜ Room (2 * m) k (now pending) (now bits) ⌝ }
     requires { ⌜ Staged m k (now pending) (now bits) stage ⌝ }
     requires { ⌜ (0 < level) × (level ≤ 2 ^ 32) ⌝ }
-    ensures { λ r. ⌜ Moves m k level [] (now (pending .entry)) (now (bits .entry)) stage (now (pending .exit)) (now (bits .exit)) r × (r .count ≤ m) ⌝ }
+    ensures { λ r. ⌜ Moves m k level [] (now (pending .entry)) (now (bits .entry)) stage (now (pending .exit)) (now (bits .exit)) r
+        × (r .count ≤ m) ⌝ }
 {
     bitvec::toggle_all(bits, pending, stage.count);
     let next = settle(bits, stage.split, m, k, level);
@@ -75,7 +76,8 @@ fn compact(
 // One more bucket pending, where there is room.
 fn store(pending: &mut [u32], stage: Stage, bucket: usize) -> Stage
     requires { ⌜ (stage .count < length (now pending)) × (bucket < 2 ^ 32) ⌝ }
-    ensures { λ r. ⌜ (now (pending .exit) ≡ set (now (pending .entry)) (stage .count) bucket) × (r .split ≡ stage .split) × (r .count ≡ stage .count + 1) ⌝ }
+    ensures { λ r. ⌜ (now (pending .exit) ≡ set (now (pending .entry)) (stage .count) bucket)
+        × (r .split ≡ stage .split) × (r .count ≡ stage .count + 1) ⌝ }
 {
     let count = stage.count;
     pending[count] = bucket as u32;
@@ -98,7 +100,8 @@ fn push_one(
     requires { ⌜ Room (2 * m) k (now pending) (now bits) ⌝ }
     requires { ⌜ Staged m k (now pending) (now bits) stage ⌝ }
     requires { ⌜ (0 < level) × (level ≤ 2 ^ 32) × (bucket < 64 * k) ⌝ }
-    ensures { λ r. ⌜ Moves m k level (bucket ∷ []) (now (pending .entry)) (now (bits .entry)) stage (now (pending .exit)) (now (bits .exit)) r × Stays m (bucket ∷ []) stage r ⌝ }
+    ensures { λ r. ⌜ Moves m k level (bucket ∷ []) (now (pending .entry)) (now (bits .entry)) stage
+        (now (pending .exit)) (now (bits .exit)) r × Stays m (bucket ∷ []) stage r ⌝ }
 {
     if bucket < stage.split {
         bitvec::toggle(bits, bucket);
@@ -124,7 +127,8 @@ pub fn push_all(
     requires { ⌜ Room (2 * m) k (now pending) (now bits) ⌝ }
     requires { ⌜ Staged m k (now pending) (now bits) stage ⌝ }
     requires { ⌜ (0 < level) × (level ≤ 2 ^ 32) × Below (64 * k) (now list) ⌝ }
-    ensures { λ r. ⌜ Moves m k level (now (list .entry)) (now (pending .entry)) (now (bits .entry)) stage (now (pending .exit)) (now (bits .exit)) r × Stays m (now (list .entry)) stage r ⌝ }
+    ensures { λ r. ⌜ Moves m k level (now (list .entry)) (now (pending .entry)) (now (bits .entry)) stage
+        (now (pending .exit)) (now (bits .exit)) r × Stays m (now (list .entry)) stage r ⌝ }
 {
     let mut now = stage;
     let mut i = 0;

@@ -68,7 +68,8 @@ fn order(
     requires { ⌜ RowWalks layout (now first) 0 k ⌝ }
     requires { ⌜ RowWalks layout2 (now second) 0 k ⌝ }
     requires { ⌜ (1 ≤ size) × (size ≤ largestMaskSize) × Laid size «block_mask» ⌝ }
-    ensures { λ r. ⌜ r ≡ orderTold (orderOf (64 * k) «block_mask» size (rowSet layout (now (first .entry))) (rowSet layout2 (now (second .entry)))) ⌝ }
+    ensures { λ r. ⌜ r ≡ orderTold (orderOf (64 * k) «block_mask» size
+        (rowSet layout (now (first .entry))) (rowSet layout2 (now (second .entry)))) ⌝ }
 {
     masked::order_by(deciding_block(first, layout, second, layout2, block_mask, size, k))
 }
@@ -106,7 +107,8 @@ fn same(first: &[u8], second: &[u8]) -> bool
     true
 }
 
-// The order of two rows under a mask laid over a block. The first is judged before the second. A row that is taken shows one set, so rows of the same bytes are equal once the first is taken.
+// The order of two rows under a mask laid over a block. The first is judged before the second. A row that is
+// taken shows one set, so rows of the same bytes are equal once the first is taken.
 fn order_judged(
     config: u64,
     block_mask: u64,

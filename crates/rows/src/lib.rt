@@ -94,7 +94,8 @@ fn fill(
 ) -> Tally
     requires { ⌜ Room m k (now top) (now blocks) ⌝ }
     requires { ⌜ Readable layout m k (now row) ⌝ }
-    ensures { λ r. ⌜ Becomes m k (setIn layout m (now (row .entry))) (now (top .entry)) (now (blocks .entry)) (now (top .exit)) (now (blocks .exit)) (r .count) (r .boundary) ⌝ }
+    ensures { λ r. ⌜ Becomes m k (setIn layout m (now (row .entry)))
+        (now (top .entry)) (now (blocks .entry)) (now (top .exit)) (now (blocks .exit)) (r .count) (r .boundary) ⌝ }
 {
     let count = layout.count;
     read_entries(top, row, layout.width, count);

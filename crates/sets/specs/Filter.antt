@@ -88,7 +88,8 @@ limitedBound m n window S = cond (leb (limitedCount m n window S) m) 0 (64 * low
 -- ---- the builder
 
 -- 01: "Builder: a starting split from 0 to W, pending buckets (area of 2M), bits below the split. Pushing a list flips like toggling".
--- Its set: the buckets pending flip the set that the bits hold, so that doubles cancel. Ask it below W: a slice may be longer than its area.
+-- Its set: the buckets pending flip the set that the bits hold, so that doubles cancel. Ask it below W: a slice may be
+-- longer than its area.
 abbrev pub builderSet : List ℕ → List ℕ → ℕ → Set
 builderSet pending bits count = flips (take count pending) (held bits)
 

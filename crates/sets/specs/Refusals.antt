@@ -152,4 +152,5 @@ builderAreas n pending bits = isKnown n ∷ holdsArea (2 * configAt n .M) pendin
 
 -- 1, 3 and 8: a builder
 abbrev pub builderLent : BuilderRecord → List ℕ → List ℕ → List Test
-builderLent r pending bits = builderAreas (r .config) (length pending) (length bits) ++ (areBuilder (configAt (r .config)) r pending bits ∷ [])
+builderLent r pending bits =
+    builderAreas (r .config) (length pending) (length bits) ++ (areBuilder (configAt (r .config)) r pending bits ∷ [])
