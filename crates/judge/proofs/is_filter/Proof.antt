@@ -5,37 +5,16 @@ use borrow.Author.Needs.{needs}
 use Rattle.judge.proofs.is_filter.Statement.{statement}
 use Rattle.judge.proofs.is_filter.Tie as tie
 
-mul-top-fits : tie.Need-mul-top-fits
-mul-top-fits c = search needs
-
-top-fits-requires : tie.Need-top-fits-requires
-top-fits-requires c κs = search needs
-
 returns : tie.Need-returns
 returns c =
     let s = c .before .before .before .before in
     no-top (s .args .tally .count) (s .args .tally .boundary) (s .pre)
     (tells-not (c .before .top-fits .result) (not-true (c .before .top-fits .result) (c .if1 .taken)) (c .before .top-fits .ensures))
 
-sub-last : tie.Need-sub-last
-sub-last c = search needs
-
-mul-into-usize : tie.Need-mul-into-usize
-mul-into-usize c = search needs
-
-shared-slice-read-into-usize : tie.Need-shared-slice-read-into-usize
-shared-slice-read-into-usize c = search needs
-
-into-usize-requires : tie.Need-into-usize-requires
-into-usize-requires c κs = search needs
-
 returns-2 : tie.Need-returns-2
 returns-2 c =
     let s = c .before .before .before .before .before .before .before in
     no-edge (s .args .tally .count) (s .args .tally .boundary) (s .pre) (c .before .into-usize .result) (c .before .into-usize .ensures) (c .if2 .taken)
-
-bits-fit-requires : tie.Need-bits-fit-requires
-bits-fit-requires c κs = search needs
 
 returns-3 : tie.Need-returns-3
 returns-3 c =
@@ -49,13 +28,13 @@ pub is-filter-spec : {M : Type 1} → statement M
 is-filter-spec =
     tie.close
     (tie.spec
-    mul-top-fits
-    top-fits-requires
+    (λ c. search needs)
+    (λ c κs. search needs)
     returns
-    sub-last
-    mul-into-usize
-    shared-slice-read-into-usize
-    into-usize-requires
+    (λ c. search needs)
+    (λ c. search needs)
+    (λ c. search needs)
+    (λ c κs. search needs)
     returns-2
-    bits-fit-requires
+    (λ c κs. search needs)
     returns-3)

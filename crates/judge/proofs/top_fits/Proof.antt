@@ -6,17 +6,8 @@ use borrow.Author.Needs.{needs}
 use Rattle.judge.proofs.top_fits.Statement.{statement}
 use Rattle.judge.proofs.top_fits.Tie as tie
 
-returns : tie.Need-returns
-returns c = search needs
-
-falls-requires : tie.Need-falls-requires
-falls-requires c κs = search needs
-
 returns-2 : tie.Need-returns-2
 returns-2 c = λ F. tells-not (c .before .falls .result) (not-true (c .before .falls .result) (c .if2 .taken)) (c .before .falls .ensures) (F .falling)
-
-or-cells-requires : tie.Need-or-cells-requires
-or-cells-requires c κs = search needs
 
 returns-3 : tie.Need-returns-3
 returns-3 c =
@@ -26,4 +17,4 @@ returns-3 c =
     (c .or-cells .ensures) _ refl
 
 pub top-fits-spec : {M : Type 1} → statement M
-top-fits-spec = tie.close (tie.spec returns falls-requires returns-2 or-cells-requires returns-3)
+top-fits-spec = tie.close (tie.spec (λ c. search needs) (λ c κs. search needs) returns-2 (λ c κs. search needs) returns-3)

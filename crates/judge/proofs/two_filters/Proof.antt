@@ -90,28 +90,10 @@ module _ (k : Two) where
   room2 : true ≡ roomy o (length top2) (length bits2) → Room (o .top) (o .blocks) top2 bits2
   room2 = room-told config2 o top2 bits2 (known-of config2 o second .1)
 
-sizes-of-requires : tie.Need-sizes-of-requires
-sizes-of-requires c κs = search needs
-
-enum-known-s : tie.Need-enum-known-s
-enum-known-s c = search needs
-
-enum-told : tie.Need-enum-told
-enum-told c = search needs
-
 returns : tie.Need-returns
 returns c =
     let a = c .before .before .before .before .before .before .before .args in
     two-first (a .config) (a .tally) (a .top .now) (a .blocks .now) (a .config2) (a .tally2) (a .top2 .now) (a .blocks2 .now) (a .to-top) (a .to-blocks) _ (sym (c .before .before .sizes-of .ensures) ∙ c .enum-told .given .1)
-
-sizes-of-requires-2 : tie.Need-sizes-of-requires-2
-sizes-of-requires-2 c κs = search needs
-
-enum-known-o : tie.Need-enum-known-o
-enum-known-o c = search needs
-
-enum-told-2 : tie.Need-enum-told-2
-enum-told-2 c = search needs
 
 returns-2 : tie.Need-returns-2
 returns-2 c =
@@ -119,17 +101,11 @@ returns-2 c =
     let k = c .before .before .before .before in
     two-second (a .config) (a .tally) (a .top .now) (a .blocks .now) (a .config2) (a .tally2) (a .top2 .now) (a .blocks2 .now) (a .to-top) (a .to-blocks) (k .s .given .0 .0) (sym (k .before .before .sizes-of .ensures) ∙ k .s .given .1) _ (sym (c .before .before .sizes-of2 .ensures) ∙ c .enum-told2 .given .1)
 
-has-room-requires : tie.Need-has-room-requires
-has-room-requires c κs = search needs
-
 returns-3 : tie.Need-returns-3
 returns-3 c =
     rest (c .before .before) false _ _ _ _ _
     (sym (not-true (c .before .has-room .result) (c .if1 .taken)) ∙ c .before .has-room .ensures)
     refl refl refl refl refl
-
-has-room-requires-2 : tie.Need-has-room-requires-2
-has-room-requires-2 c κs = search needs
 
 returns-4 : tie.Need-returns-4
 returns-4 c =
@@ -137,9 +113,6 @@ returns-4 c =
     (sym (not-false (c .before .before .before .has-room .result) (c .before .before .if1 .left)) ∙ c .before .before .before .has-room .ensures)
     (sym (not-true (c .before .has-room2 .result) (c .if2 .taken)) ∙ c .before .has-room2 .ensures)
     refl refl refl refl
-
-has-room-requires-3 : tie.Need-has-room-requires-3
-has-room-requires-3 c κs = search needs
 
 returns-5 : tie.Need-returns-5
 returns-5 c =
@@ -202,19 +175,19 @@ pub two-filters-spec : {M : Type 1} → statement M
 two-filters-spec =
     tie.close
     (tie.spec
-    sizes-of-requires
-    enum-known-s
-    enum-told
+    (λ c κs. search needs)
+    (λ c. search needs)
+    (λ c. search needs)
     returns
-    sizes-of-requires-2
-    enum-known-o
-    enum-told-2
+    (λ c κs. search needs)
+    (λ c. search needs)
+    (λ c. search needs)
     returns-2
-    has-room-requires
+    (λ c κs. search needs)
     returns-3
-    has-room-requires-2
+    (λ c κs. search needs)
     returns-4
-    has-room-requires-3
+    (λ c κs. search needs)
     returns-5
     is-filter-requires
     returns-6
