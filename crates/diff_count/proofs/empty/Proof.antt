@@ -7,26 +7,11 @@ use borrow.Author.Needs.{needs}
 use Rattle.diff_count.proofs.empty.Statement.{statement}
 use Rattle.diff_count.proofs.empty.Tie as tie
 
-areas-requires : tie.Need-areas-requires
-areas-requires c κs = search needs
-
-enum-known-s : tie.Need-enum-known-s
-enum-known-s c = search needs
-
 zero-cells-requires : tie.Need-zero-cells-requires
 zero-cells-requires c κs = (omega arith, areas-room (c .before .before .before .before .before .before .before .args .config) (c .before .before .before .before .before .before .before .args .top .now) (c .before .before .before .before .before .before .before .args .blocks .now) (c .before .before .s .given .0 .0) (sym (c .before .before .before .before .areas .ensures) ∙ c .before .before .s .given .1) .cells)
 
 zero-blocks-requires : tie.Need-zero-blocks-requires
 zero-blocks-requires c κs = (omega arith, areas-room (c .before .before .before .before .before .before .before .before .before .before .before .args .config) (c .before .before .before .before .before .before .before .before .before .before .before .args .top .now) (c .before .before .before .before .before .before .before .before .before .before .before .args .blocks .now) (c .before .before .before .before .before .before .s .given .0 .0) (sym (c .before .before .before .before .before .before .before .before .areas .ensures) ∙ c .before .before .before .before .before .before .s .given .1) .blocksIn)
-
-enum-known-r : tie.Need-enum-known-r
-enum-known-r c = search needs
-
-same-length : tie.Need-same-length
-same-length c = search needs
-
-same-length-2 : tie.Need-same-length-2
-same-length-2 c = search needs
 
 returns : tie.Need-returns
 returns c = empty-ready (c .before .before .before .before .before .before .before .before .before .before .before .before .before .before .args .config) (c .before .before .before .before .before .before .before .before .before .before .before .before .before .before .args .top .now) (c .before .before .before .before .before .before .before .before .before .before .before .before .before .before .args .blocks .now) (c .before .before .before .before .before .before .before .before .before .s .given .0 .0) (sym (c .before .before .before .before .before .before .before .before .before .before .before .areas .ensures) ∙ c .before .before .before .before .before .before .before .before .before .s .given .1) (c .before .before .before .before .before .before .zero-cells .ensures) (c .before .before .zero-blocks .ensures)
@@ -38,12 +23,12 @@ pub empty-spec : {M : Type 1} → statement M
 empty-spec =
     tie.close
     (tie.spec
-    areas-requires
-    enum-known-s
+    (λ c κs. search needs)
+    (λ c. search needs)
     zero-cells-requires
     zero-blocks-requires
-    enum-known-r
-    same-length
-    same-length-2
+    (λ c. search needs)
+    (λ c. search needs)
+    (λ c. search needs)
     returns
     returns-2)

@@ -10,9 +10,6 @@ blocks-up-to-first-requires c κs =
     let s = c .before .before .before .before in
     tops-led (filter-holds _ _ _ _ _ _ (s .pre .1 .0)) (s .pre .0 .some)
 
-blocks-up-to-requires : tie.Need-blocks-up-to-requires
-blocks-up-to-requires c κs = search needs
-
 fold-requires : tie.Need-fold-requires
 fold-requires c κs =
     let s = c .before .before .before .before .before .before .before .before in
@@ -35,12 +32,6 @@ split-requires c κs =
     let H = filter-holds _ _ _ _ _ _ (s .pre .1 .0) in
     (search needs, flip-ends (s .args .list .now) (s .pre .0) H (s .pre .1 .1) (f .fold .kept .1 .1 .0) (f .fold .ensures) (t .toggle-all .ensures) (u .before .blocks-up-to-first .ensures) (u .blocks-up-to .ensures))
 
-same-length : tie.Need-same-length
-same-length c = search needs
-
-same-length-2 : tie.Need-same-length-2
-same-length-2 c = search needs
-
 returns : tie.Need-returns
 returns c =
     let p = c .before .before .before .before in
@@ -55,10 +46,10 @@ flip-and-split-spec =
     tie.close
     (tie.spec
     blocks-up-to-first-requires
-    blocks-up-to-requires
+    (λ c κs. search needs)
     fold-requires
     toggle-all-requires
     split-requires
-    same-length
-    same-length-2
+    (λ c. search needs)
+    (λ c. search needs)
     returns)

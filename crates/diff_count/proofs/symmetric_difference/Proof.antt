@@ -5,23 +5,8 @@ use borrow.Author.Needs.{needs}
 use Rattle.diff_count.proofs.symmetric_difference.Statement.{statement}
 use Rattle.diff_count.proofs.symmetric_difference.Tie as tie
 
-two-filters-requires : tie.Need-two-filters-requires
-two-filters-requires c κs = search needs
-
-enum-known-s : tie.Need-enum-known-s
-enum-known-s c = search needs
-
 xor-requires : tie.Need-xor-requires
 xor-requires c κs = difference-asks (c .before .before .before .before .before .before .before .before .before .before .before .before .args .a) (c .before .before .before .before .before .before .before .before .before .before .before .before .args .top .now) (c .before .before .before .before .before .before .before .before .before .before .before .before .args .blocks .now) (c .before .before .before .before .before .before .before .before .before .before .before .before .args .b) (c .before .before .before .before .before .before .before .before .before .before .before .before .args .top2 .now) (c .before .before .before .before .before .before .before .before .before .before .before .before .args .blocks2 .now) (c .before .before .before .before .before .before .before .before .before .before .before .before .args .to-top .now) (c .before .before .before .before .before .before .before .before .before .before .before .before .args .to-blocks .now) (c .before .before .before .s .given .0 .0) (sym (c .before .before .before .before .before .two-filters .ensures) ∙ c .before .before .before .s .given .1)
-
-enum-known-r : tie.Need-enum-known-r
-enum-known-r c = search needs
-
-same-length : tie.Need-same-length
-same-length c = search needs
-
-same-length-2 : tie.Need-same-length-2
-same-length-2 c = search needs
 
 returns : tie.Need-returns
 returns c =
@@ -35,11 +20,11 @@ pub symmetric-difference-spec : {M : Type 1} → statement M
 symmetric-difference-spec =
     tie.close
     (tie.spec
-    two-filters-requires
-    enum-known-s
+    (λ c κs. search needs)
+    (λ c. search needs)
     xor-requires
-    enum-known-r
-    same-length
-    same-length-2
+    (λ c. search needs)
+    (λ c. search needs)
+    (λ c. search needs)
     returns
     returns-2)

@@ -50,12 +50,6 @@ split-requires c κs =
     let G = filter-holds _ _ _ _ _ _ (s .pre .1 .1) in
     (search needs, cross-ends (s .pre .0) H G (x .xor-bits .kept .0) (x .xor-bits .ensures) (t .toggle-all .ensures) (q .toggle-all2 .ensures) (u .before .blocks-up-to-first .ensures) (u .blocks-up-to-first2 .ensures))
 
-same-length : tie.Need-same-length
-same-length c = search needs
-
-same-length-2 : tie.Need-same-length-2
-same-length-2 c = search needs
-
 returns : tie.Need-returns
 returns c =
     let p = c .before .before .before .before in
@@ -77,6 +71,6 @@ xor-spec =
     toggle-all-requires
     toggle-all-requires-2
     split-requires
-    same-length
-    same-length-2
+    (λ c. search needs)
+    (λ c. search needs)
     returns)

@@ -31,9 +31,6 @@ zero-blocks-requires c κs =
     zeros-fit (s .args .to-blocks .now) (s .pre .1 .0) (s .pre .1 .1) (s .pre .0 .0) (n .num-blocks .ensures ∙ ap blocksFor (edge-is (n .before)))
     (x .xor .last .0) (x .xor .kept .0)
 
-same-length : tie.Need-same-length
-same-length c = search needs
-
 returns : tie.Need-returns
 returns c =
     let z = c .before .before in
@@ -45,4 +42,4 @@ returns c =
 
 pub xor-bits-spec : {M : Type 1} → statement M
 xor-bits-spec =
-    tie.close (tie.spec num-blocks-requires xor-requires zero-blocks-requires same-length returns)
+    tie.close (tie.spec num-blocks-requires xor-requires zero-blocks-requires (λ c. search needs) returns)
