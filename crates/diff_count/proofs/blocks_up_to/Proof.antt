@@ -18,10 +18,9 @@ loop-holds c = reach-start _ _ _
 
 loop-again : tie.Need-loop-again Inv-loop μ-loop
 loop-again c =
-    let x = c .before in
-    let u = x .before in
-    let k = u .before .before .before in
-    reach-turn (k .loop .inv) (x .into-index .result + 1) (c .if1 .most) (omega arith) (omega (arith, x .into-index .ensures, u .into-usize .ensures))
+    let u = c .before .before in
+    reach-turn (u .before .before .before .loop .inv) (c .before .into-index .result + 1) (c .if1 .most)
+    (omega arith) (omega (arith, c .before .into-index .ensures, u .into-usize .ensures))
     (⊎-elim (λ w. omega arith) (λ w. omega arith) (c .if1 .came))
 
 returns : tie.Need-returns Inv-loop μ-loop

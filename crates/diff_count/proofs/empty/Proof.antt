@@ -8,16 +8,36 @@ use Rattle.diff_count.proofs.empty.Statement.{statement}
 use Rattle.diff_count.proofs.empty.Tie as tie
 
 zero-cells-requires : tie.Need-zero-cells-requires
-zero-cells-requires c κs = (omega arith, areas-room (c .before .before .before .before .before .before .before .args .config) (c .before .before .before .before .before .before .before .args .top .now) (c .before .before .before .before .before .before .before .args .blocks .now) (c .before .before .s .given .0 .0) (sym (c .before .before .before .before .areas .ensures) ∙ c .before .before .s .given .1) .cells)
+zero-cells-requires c κs =
+    let k = c .before .before in
+    let a = k .before .before in
+    let s = a .before .before .before in (
+      omega arith,
+      areas-room _ (s .args .top .now) (s .args .blocks .now) _
+          (sym (a .areas .ensures) ∙ k .s .given .1) .cells,
+    )
 
 zero-blocks-requires : tie.Need-zero-blocks-requires
-zero-blocks-requires c κs = (omega arith, areas-room (c .before .before .before .before .before .before .before .before .before .before .before .args .config) (c .before .before .before .before .before .before .before .before .before .before .before .args .top .now) (c .before .before .before .before .before .before .before .before .before .before .before .args .blocks .now) (c .before .before .before .before .before .before .s .given .0 .0) (sym (c .before .before .before .before .before .before .before .before .areas .ensures) ∙ c .before .before .before .before .before .before .s .given .1) .blocksIn)
+zero-blocks-requires c κs =
+    let k = c .before .before .before in
+    let j = k .before .before .before in
+    let a = j .before .before in
+    let s = a .before .before .before in (
+      omega arith,
+      areas-room _ (s .args .top .now) (s .args .blocks .now) _
+          (sym (a .areas .ensures) ∙ j .s .given .1) .blocksIn,
+    )
 
 returns : tie.Need-returns
-returns c = empty-ready (c .before .before .before .before .before .before .before .before .before .before .before .before .before .before .args .config) (c .before .before .before .before .before .before .before .before .before .before .before .before .before .before .args .top .now) (c .before .before .before .before .before .before .before .before .before .before .before .before .before .before .args .blocks .now) (c .before .before .before .before .before .before .before .before .before .s .given .0 .0) (sym (c .before .before .before .before .before .before .before .before .before .before .before .areas .ensures) ∙ c .before .before .before .before .before .before .before .before .before .s .given .1) (c .before .before .before .before .before .before .zero-cells .ensures) (c .before .before .zero-blocks .ensures)
+returns c =
+    let z = c .before .before in
+    let k = z .before .before .before .before in
+    let j = k .before .before .before in
+    empty-ready _ _ _ _ (sym (j .before .before .areas .ensures) ∙ j .s .given .1) (k .zero-cells .ensures)
+    (z .zero-blocks .ensures)
 
 returns-2 : tie.Need-returns-2
-returns-2 c = empty-refused (c .before .before .before .before .before .before .args .config) (c .before .before .before .before .before .before .args .top .now) (c .before .before .before .before .before .before .args .blocks .now) (c .before .r .given .0 .0) (sym (c .before .before .before .areas .ensures) ∙ c .before .r .given .1)
+returns-2 c = empty-refused _ _ _ _ (sym (c .before .before .before .areas .ensures) ∙ c .before .r .given .1)
 
 pub empty-spec : {M : Type 1} → statement M
 empty-spec =

@@ -9,7 +9,8 @@ use Rattle.diff_count.proofs.flip_all.Tie as tie
 
 toggle-all-requires : tie.Need-toggle-all-requires
 toggle-all-requires c κs =
-    let s = c .before .before .before .before .before .before in
+    let k = c .before .before .before in
+    let s = k .before .before .before in
     let H = filter-holds _ _ _ _ _ _ (s .pre .1 .0) in
     list-fits (s .args .list .now) (s .pre .0) H (s .pre .1 .1) (s .args .blocks .now) refl
 

@@ -12,14 +12,16 @@ blocks-up-to-first-requires c κs =
 
 fold-requires : tie.Need-fold-requires
 fold-requires c κs =
-    let s = c .before .before .before .before .before .before .before .before in
+    let k = c .before .before .before .before in
+    let s = k .before .before .before .before in
     let H = filter-holds _ _ _ _ _ _ (s .pre .1 .0) in
     fold-fits (s .args .list .now) (s .pre .0) H (s .pre .1 .1)
 
 toggle-all-requires : tie.Need-toggle-all-requires
 toggle-all-requires c κs =
     let f = c .before .before .before in
-    let s = f .before .before .before .before .before .before .before .before .before in
+    let k = f .before .before .before .before .before in
+    let s = k .before .before .before .before in
     let H = filter-holds _ _ _ _ _ _ (s .pre .1 .0) in
     list-fits (s .args .list .now) (s .pre .0) H (s .pre .1 .1) (f .fold .last .1 .1 .0) (f .fold .kept .1 .1 .0)
 
@@ -28,18 +30,24 @@ split-requires c κs =
     let t = c .before .before .before .before in
     let f = t .before .before .before .before in
     let u = f .before .before .before in
-    let s = u .before .before .before .before .before .before in
-    let H = filter-holds _ _ _ _ _ _ (s .pre .1 .0) in
-    (search needs, flip-ends (s .args .list .now) (s .pre .0) H (s .pre .1 .1) (f .fold .kept .1 .1 .0) (f .fold .ensures) (t .toggle-all .ensures) (u .before .blocks-up-to-first .ensures) (u .blocks-up-to .ensures))
+    let k = u .before .before .before in
+    let s = k .before .before .before in
+    let H = filter-holds _ _ _ _ _ _ (s .pre .1 .0) in (
+      search needs,
+      flip-ends (s .args .list .now) (s .pre .0) H (s .pre .1 .1) (f .fold .kept .1 .1 .0)
+          (f .fold .ensures) (t .toggle-all .ensures) (u .before .blocks-up-to-first .ensures) (u .blocks-up-to .ensures),
+    )
 
 returns : tie.Need-returns
 returns c =
     let p = c .before .before .before .before in
     let t = p .before .before .before .before .before in
     let f = t .before .before .before .before in
-    let s = f .before .before .before .before .before .before .before .before .before in
+    let k = f .before .before .before .before .before in
+    let s = k .before .before .before .before in
     let H = filter-holds _ _ _ _ _ _ (s .pre .1 .0) in
-    flip-becomes (s .args .list .now) (s .pre .0) H (s .pre .1 .1) (f .fold .kept .1 .1 .0) (f .fold .ensures) (t .toggle-all .ensures) (p .split .ensures)
+    flip-becomes (s .args .list .now) (s .pre .0) H (s .pre .1 .1) (f .fold .kept .1 .1 .0) (f .fold .ensures)
+    (t .toggle-all .ensures) (p .split .ensures)
 
 pub flip-and-split-spec : {M : Type 1} → statement M
 flip-and-split-spec =

@@ -8,22 +8,30 @@ use Rattle.diff_count.proofs.Filter.toggle.Tie as tie
 
 returns : tie.Need-returns
 returns c =
-    toggle-past (c .before .before .before .before .before .before .before .before .before .before .before .args .self) (c .before .before .before .before .before .before .before .before .before .before .before .args .top .now) (c .before .before .before .before .before .before .before .before .before .before .before .args .blocks .now) (c .before .before .before .before .before .before .before .before .before .before .before .args .list .now) (c .before .before .before .s .given .0 .0) (sym (c .before .before .before .before .before .filter .ensures) ∙ c .before .before .before .s .given .1)
-    (sym (not-true (c .before .all-below .result) (c .if1 .taken)) ∙ c .before .all-below .ensures)
+    toggle-past _ _ _ _ _ (sym (c .before .before .before .before .before .filter .ensures) ∙ c .before .before .before .s .given .1)
+    (sym (not-true _ (c .if1 .taken)) ∙ c .before .all-below .ensures)
 
 flip-all-requires : tie.Need-flip-all-requires
 flip-all-requires c κs =
-    toggle-asks (c .before .before .before .before .before .before .before .before .before .before .before .before .before .args .self) (c .before .before .before .before .before .before .before .before .before .before .before .before .before .args .top .now) (c .before .before .before .before .before .before .before .before .before .before .before .before .before .args .blocks .now) (c .before .before .before .before .before .before .before .before .before .before .before .before .before .args .list .now) (c .before .before .before .before .before .s .given .0 .0) (sym (c .before .before .before .before .before .before .before .filter .ensures) ∙ c .before .before .before .before .before .s .given .1)
-    (sym (not-false (c .before .before .before .all-below .result) (c .before .before .if1 .left)) ∙ c .before .before .before .all-below .ensures)
+    let i = c .before .before in
+    let k = i .before .before .before in
+    let f = k .before .before in
+    let j = f .before .before .before in
+    let a = j .before .before .before in
+    toggle-asks _ _ _ (a .args .list .now) _ (sym (f .filter .ensures) ∙ k .s .given .1)
+    (sym (not-false _ (i .if1 .left)) ∙ i .before .all-below .ensures)
 
 returns-2 : tie.Need-returns-2
 returns-2 c =
-    toggle-ready (c .before .before .before .before .before .before .before .before .before .before .before .before .before .before .before .before .before .before .args .self) (c .before .before .before .before .before .before .before .before .before .before .before .before .before .before .before .before .before .before .args .top .now) (c .before .before .before .before .before .before .before .before .before .before .before .before .before .before .before .before .before .before .args .blocks .now) (c .before .before .before .before .before .before .before .before .before .before .before .before .before .before .before .before .before .before .args .list .now) (c .before .before .before .before .before .before .before .before .before .before .s .given .0 .0) (sym (c .before .before .before .before .before .before .before .before .before .before .before .before .filter .ensures) ∙ c .before .before .before .before .before .before .before .before .before .before .s .given .1)
-    (sym (not-false (c .before .before .before .before .before .before .before .before .all-below .result) (c .before .before .before .before .before .before .before .if1 .left)) ∙ c .before .before .before .before .before .before .before .before .all-below .ensures) (c .before .before .before .before .flip-all .ensures)
+    let f = c .before .before .before .before in
+    let i = f .before .before .before in
+    let k = i .before .before .before in
+    toggle-ready _ _ _ _ _ (sym (k .before .before .filter .ensures) ∙ k .s .given .1)
+    (sym (not-false _ (i .if1 .left)) ∙ i .before .all-below .ensures) (f .flip-all .ensures)
 
 returns-3 : tie.Need-returns-3
 returns-3 c =
-    toggle-refused (c .before .before .before .before .before .before .before .before .before .args .self) (c .before .before .before .before .before .before .before .before .before .args .top .now) (c .before .before .before .before .before .before .before .before .before .args .blocks .now) (c .before .before .before .before .before .before .before .before .before .args .list .now) (c .before .r .given .0 .0)
+    toggle-refused _ _ _ _ _
     (sym (c .before .before .before .filter .ensures) ∙ c .before .r .given .1)
 
 pub toggle-spec : {M : Type 1} → statement M
