@@ -11,10 +11,11 @@ returns c = λ p a b. absurd (omega arith)
 
 returns-2 : tie.Need-returns-2
 returns-2 c =
-    let s = c .before .before .before .before .before .before in
-    bits-tell (s .args .blocks .now) (s .args .boundary) (c .before .before .before .before .into-index .result) (c .before .into-bit .result)
-    (c .before .before .before .before .into-index .ensures) (c .before .into-bit .ensures) (λ i. c .before .before .shared-slice-known2 .given i .fits)
-    (c .before .before .before .if1 .left) (c .or-blocks .ensures) _ refl
+    let s = c .before .before in
+    let k = s .before .before in
+    bits-tell (k .before .before .args .blocks .now) _ _ _
+    (k .into-index .ensures) (c .before .into-bit .ensures) (λ i. s .shared-slice-known2 .given i .fits)
+    (s .before .if1 .left) (c .or-blocks .ensures) _ refl
 
 pub bits-fit-spec : {M : Type 1} → statement M
 bits-fit-spec =

@@ -17,13 +17,15 @@ loop-holds c = fall-start _ _ _
 
 returns : tie.Need-returns Inv-loop μ-loop
 returns c =
-    let k = c .before .before .before .before in
-    fall-not (k .before .before .pre) (c .before .before .before .loop-test .taken) (k .loop .inv) (c .before .into-usize .result) (c .before .into-usize .ensures) (c .if1 .taken)
+    let t = c .before .before .before in
+    fall-not (t .before .before .before .pre) (t .loop-test .taken) (t .before .loop .inv) _
+    (c .before .into-usize .ensures) (c .if1 .taken)
 
 loop-again : tie.Need-loop-again Inv-loop μ-loop
 loop-again c =
-    let k = c .before .before .before .before in
-    fall-turn (k .before .before .pre) (c .before .before .before .loop-test .taken) (k .loop .inv) (c .before .into-usize .result) (c .before .into-usize .ensures) (c .if1 .left)
+    let t = c .before .before .before in
+    fall-turn (t .before .before .before .pre) (t .loop-test .taken) (t .before .loop .inv) _
+    (c .before .into-usize .ensures) (c .if1 .left)
 
 returns-2 : tie.Need-returns-2 Inv-loop μ-loop
 returns-2 c = fall-end (c .loop-test .left) (c .before .loop .inv)
