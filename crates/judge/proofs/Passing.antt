@@ -19,7 +19,8 @@ use Rattle.bitvec.specs.declared.Tally.{Tally}
 use Rattle.judge.specs.Judging.{recordAt}
 use Rattle.judge.proofs.Verdicts.{Passes, two-alone}
 
-pub stands-pass : {n : ℕ} {t : Tally} {top bits : List ℕ} {S : Set} → known n ≡ true → Stands (configAt n) (recordAt n t) top bits S → Passes n t top bits
+pub stands-pass : {n : ℕ} {t : Tally} {top bits : List ℕ} {S : Set} → known n ≡ true
+    → Stands (configAt n) (recordAt n t) top bits S → Passes n t top bits
 unfolding sizesAt
 stands-pass {n} {t} {top} {bits} {S} k H =
     let s = line-at n .sound in

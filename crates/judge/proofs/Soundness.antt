@@ -46,7 +46,9 @@ module _ {limit : ℕ} {l : List ℕ} {above : Bool} {i : ℕ} (t : Asking limit
   ask-turn h =
       let x : ℕ = getD l i 0 in
       let d : drop i l ≡ x ∷ drop (i + 1) l = drop-cons l i 0 h ∙ ap (λ (z : ℕ). x ∷ drop z l) (sym (add-one i)) in
-      record { asks = t .asks ∙ ap (λ (r : List ℕ). not above && allBelow limit r) d ∙ join above limit x (allBelow limit (drop (i + 1) l)) }
+      record {
+        asks = t .asks ∙ ap (λ (r : List ℕ). not above && allBelow limit r) d ∙ join above limit x (allBelow limit (drop (i + 1) l));
+      }
 
   pub ask-end : length l ≤ i → not above ≡ allBelow limit l
   ask-end h = sym (t .asks ∙ ap (λ (r : List ℕ). not above && allBelow limit r) (drop-of-length-le l h) ∙ and-true (not above))
@@ -103,14 +105,16 @@ pub tells-so : (b : Bool) {P : Type 0} → b ≡ true → Tells b P → P
 tells-so true e t = t
 tells-so false e t = let z : _≡_ {A = ℕ} 0 1 = cc in absurd (omega arith)
 
-module _ {m : ℕ} (limit : ℕ) (top : List ℕ) (count : ℕ) {r : ℕ} (few : count ≤ m) (f : Falls limit (take count top)) (G : Gathered count m top r) where
+module _ {m : ℕ} (limit : ℕ) (top : List ℕ) (count : ℕ) {r : ℕ} (few : count ≤ m) (f : Falls limit (take count top))
+    (G : Gathered count m top r) where
   pub top-tells : (b : Bool) → eqb r 0 ≡ b → Tells b (TopFits m limit top count)
   top-tells true e = record { few = few; falling = f; unused = G .0 (eqb-true _ _ e) }
   top-tells false e = λ F. eqb-false _ _ e (G .1 (F .unused))
 
 -- ---- bits_fit
 
-module _ {k : ℕ} (blocks : List ℕ) (edge i j : ℕ) {r : ℕ} (ei : i ≡ edge / 64) (ej : j ≡ edge % 64) (fit : (n : ℕ) → getD blocks n 0 < 2 ^ 64) (h : i < k)
+module _ {k : ℕ} (blocks : List ℕ) (edge i j : ℕ) {r : ℕ} (ei : i ≡ edge / 64) (ej : j ≡ edge % 64)
+    (fit : (n : ℕ) → getD blocks n 0 < 2 ^ 64) (h : i < k)
     (G : Gathered (i + 1) k blocks r) where
   bits-clear : bitOr (getD blocks i 0 / 2 ^ j) r ≡ 0 → Empty (held blocks) edge (64 * k)
   unfolding held
@@ -130,7 +134,8 @@ module _ {k : ℕ} (blocks : List ℕ) (edge i j : ℕ) {r : ℕ} (ei : i ≡ ed
       go (no q) = ap (λ (x : ℕ). digit x (p % 64)) (G .0 (w .1) (p / 64) (omega arith) (omega arith)) ∙ digit-zero (p % 64)
 
   rest-none : Empty (held blocks) edge (64 * k) → Zeros (i + 1) k blocks
-  rest-none B n a b = sym (held-word blocks n (fit n)) ∙ word-none (held blocks) (64 * n) 64 (λ q l. B (64 * n + q) (omega arith) (omega arith))
+  rest-none B n a b =
+      sym (held-word blocks n (fit n)) ∙ word-none (held blocks) (64 * n) 64 (λ q l. B (64 * n + q) (omega arith) (omega arith))
 
   first-none : Empty (held blocks) edge (64 * k) → getD blocks i 0 / 2 ^ j ≡ 0
   first-none B =

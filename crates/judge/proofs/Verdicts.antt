@@ -59,12 +59,15 @@ judged-not n k e t = refuses (λ x. Refused x) (Known (sizesAt n)) (k, t, e)
 -- ---- 1, 3
 
 -- 3 of both areas is one test
-rooms : (n x y : ℕ) (v : Verdict) → cond (leb (configAt n .M) x) (cond (leb (blocks (configAt n)) y) v (refused 3)) (refused 3) ≡ cond (roomy (sizesAt n) x y) v (refused 3)
+rooms : (n x y : ℕ) (v : Verdict)
+    → cond (leb (configAt n .M) x) (cond (leb (blocks (configAt n)) y) v (refused 3)) (refused 3)
+    ≡ cond (roomy (sizesAt n) x y) v (refused 3)
 unfolding sizesAt
 rooms n x y v = cond-and (leb (configAt n .M) x) (leb (blocks (configAt n)) y) v (refused 3)
 
 -- sizes that have room
-pub room-of : (n : ℕ) (top bits : List ℕ) → roomy (sizesAt n) (length top) (length bits) ≡ true → Room (sizesAt n .top) (sizesAt n .blocks) top bits
+pub room-of : (n : ℕ) (top bits : List ℕ) → roomy (sizesAt n) (length top) (length bits) ≡ true
+    → Room (sizesAt n .top) (sizesAt n .blocks) top bits
 unfolding sizesAt
 room-of n top bits h =
     record {
@@ -74,7 +77,8 @@ room-of n top bits h =
       small = omega (arith, line-at n .small, whole-blocks (configAt n) (line-at n .sound));
     }
 
-pub room-told : (n : ℕ) (s : Sizes) (top bits : List ℕ) → s ≡ sizesAt n → true ≡ roomy s (length top) (length bits) → Room (s .top) (s .blocks) top bits
+pub room-told : (n : ℕ) (s : Sizes) (top bits : List ℕ) → s ≡ sizesAt n → true ≡ roomy s (length top) (length bits)
+    → Room (s .top) (s .blocks) top bits
 room-told n s top bits e h =
     subst (λ (x : Sizes). Room (x .top) (x .blocks) top bits) (sym e)
     (room-of n top bits (ap (λ (x : Sizes). roomy x (length top) (length bits)) (sym e) ∙ sym h))
@@ -118,7 +122,8 @@ module _ (n x y : ℕ) where
       let p = passed (known n) (cond (roomy (sizesAt n) x y) taken (refused 3)) 1 (sym areas-are ∙ t) in
       (p .0, passed (roomy (sizesAt n) x y) taken 3 (p .1) .0)
 
-pub areas-room : (n : ℕ) (top bits : List ℕ) (s : Sizes) → areasOf n (length top) (length bits) ≡ Known s → Room (s .top) (s .blocks) top bits
+pub areas-room : (n : ℕ) (top bits : List ℕ) (s : Sizes) → areasOf n (length top) (length bits) ≡ Known s
+    → Room (s .top) (s .blocks) top bits
 areas-room n top bits s q =
     let a = areas-told n (length top) (length bits) s q in
     room-told n s top bits (a .1)
@@ -152,23 +157,27 @@ module _ (n : ℕ) (t : Tally) (top bits : List ℕ) where
     is-sound : (v : Bool) → v ≡ isFilter (s .top) (s .blocks) top bits (t .count) (t .boundary) → sound ≡ v
     unfolding sizesAt
     is-sound v h =
-        ap (λ (x : Sizes). isFilter (x .top) (x .blocks) top bits (t .count) (t .boundary)) (sym (areas-told n (length top) (length bits) s q .1)) ∙ sym h
+        ap (λ (x : Sizes). isFilter (x .top) (x .blocks) top bits (t .count) (t .boundary))
+        (sym (areas-told n (length top) (length bits) s q .1)) ∙ sym h
 
-    pub filter-unsound : false ≡ isFilter (s .top) (s .blocks) top bits (t .count) (t .boundary) → Refused (refusal 8) ≡ filterOf n t top bits
+    pub filter-unsound : false ≡ isFilter (s .top) (s .blocks) top bits (t .count) (t .boundary)
+        → Refused (refusal 8) ≡ filterOf n t top bits
     unfolding filterOf
     filter-unsound h = judged-not n 8 refl (by-soundness ∙ ap (λ (b : Bool). cond b taken (refused 8)) (is-sound false h))
 
     pub filter-fits : true ≡ isFilter (s .top) (s .blocks) top bits (t .count) (t .boundary) → Known s ≡ filterOf n t top bits
     unfolding filterOf
     filter-fits h =
-        judged-taken n (areas-told n (length top) (length bits) s q .1) (by-soundness ∙ ap (λ (b : Bool). cond b taken (refused 8)) (is-sound true h))
+        judged-taken n (areas-told n (length top) (length bits) s q .1)
+        (by-soundness ∙ ap (λ (b : Bool). cond b taken (refused 8)) (is-sound true h))
 
   -- what the answer tells
   pub filter-told : (s : Sizes) → filterOf n t top bits ≡ Known s → (verdict (filterLent (recordAt n t) top bits) ≡ taken) × (s ≡ sizesAt n)
   unfolding filterOf
   filter-told s q = judged-known n (verdict (filterLent (recordAt n t) top bits)) s q
 
-  pub filter-refused : (r : Refusal) → filterOf n t top bits ≡ Refused r → (k : ℕ) × (verdict (filterLent (recordAt n t) top bits) ≡ refused k) × (r ≡ refusal k)
+  pub filter-refused : (r : Refusal) → filterOf n t top bits ≡ Refused r
+      → (k : ℕ) × (verdict (filterLent (recordAt n t) top bits) ≡ refused k) × (r ≡ refusal k)
   unfolding filterOf
   filter-refused r q = judged-refused n (verdict (filterLent (recordAt n t) top bits)) r q
 
@@ -176,7 +185,8 @@ module _ (n : ℕ) (t : Tally) (top bits : List ℕ) where
   unfolding sizesAt
   filter-pass v =
       let w : Verdict = cond sound taken (refused 8) in
-      let p = passed (known n) (cond (leb (configAt n .M) (length top)) (cond (leb (blocks (configAt n)) (length bits)) w (refused 3)) (refused 3)) 1 v in
+      let p = passed (known n) (cond (leb (configAt n .M) (length top))
+      (cond (leb (blocks (configAt n)) (length bits)) w (refused 3)) (refused 3)) 1 v in
       let r = passed (roomy (sizesAt n) (length top) (length bits)) w 3 (sym (rooms n (length top) (length bits) w) ∙ p .1) in
       record { known = p .0; room = room-of n top bits (r .0); sound = passed sound taken 8 (r .1) .0 }
 
@@ -185,7 +195,8 @@ module _ (n : ℕ) (t : Tally) (top bits : List ℕ) where
 -- the tests on two filters, with room for a third, one after the other
 abbrev pub chain : Bool → Bool → Bool → Bool → Bool → Bool → Bool → Bool → Verdict
 chain a b p q t s u e =
-    cond a (cond b (cond p (cond q (cond t (cond s (cond u (cond e taken (refused 9)) (refused 8)) (refused 8)) (refused 3)) (refused 3)) (refused 3)) (refused 1)) (refused 1)
+    cond a (cond b (cond p (cond q (cond t (cond s (cond u (cond e taken (refused 9)) (refused 8)) (refused 8)) (refused 3))
+    (refused 3)) (refused 3)) (refused 1)) (refused 1)
 
 module _ (n : ℕ) (t : Tally) (top bits : List ℕ) (o : ℕ) (u : Tally) (top2 bits2 : List ℕ) (x y : ℕ) where
   abbrev sound2 : Bool
@@ -198,7 +209,8 @@ module _ (n : ℕ) (t : Tally) (top bits : List ℕ) (o : ℕ) (u : Tally) (top2
   lent = verdict (filtersLent (recordAt n t) top bits (recordAt o u) top2 bits2 ++ holdAreas (configAt n) x y)
 
   chained : lent
-      ≡ chain (known n) (known o) (roomy (sizesAt n) (length top) (length bits)) (roomy (sizesAt o) (length top2) (length bits2)) (roomy (sizesAt n) x y)
+      ≡ chain (known n) (known o) (roomy (sizesAt n) (length top) (length bits)) (roomy (sizesAt o) (length top2) (length bits2))
+      (roomy (sizesAt n) x y)
       sound1 sound2 (eqb n o)
   unfolding sizesAt
   chained =
@@ -206,8 +218,10 @@ module _ (n : ℕ) (t : Tally) (top bits : List ℕ) (o : ℕ) (u : Tally) (top2
       let v₂ : Verdict = cond (roomy (sizesAt n) x y) v₁ (refused 3) in
       let v₃ : Verdict = cond (roomy (sizesAt o) (length top2) (length bits2)) v₂ (refused 3) in
       ap (λ (v : Verdict). cond (known n) (cond (known o) v (refused 1)) (refused 1))
-      (ap (λ (v : Verdict). cond (leb (configAt n .M) (length top)) (cond (leb (blocks (configAt n)) (length bits)) v (refused 3)) (refused 3))
-      (ap (λ (v : Verdict). cond (leb (configAt o .M) (length top2)) (cond (leb (blocks (configAt o)) (length bits2)) v (refused 3)) (refused 3))
+      (ap (λ (v : Verdict). cond (leb (configAt n .M) (length top)) (cond (leb (blocks (configAt n)) (length bits)) v (refused 3))
+      (refused 3))
+      (ap (λ (v : Verdict). cond (leb (configAt o .M) (length top2))
+      (cond (leb (blocks (configAt o)) (length bits2)) v (refused 3)) (refused 3))
       (rooms n x y v₁)
       ∙ rooms o (length top2) (length bits2) v₂)
       ∙ rooms n (length top) (length bits) v₃)
@@ -219,7 +233,8 @@ module _ (n : ℕ) (t : Tally) (top bits : List ℕ) (o : ℕ) (u : Tally) (top2
       let v : lent ≡ refused 1 = chained ∙ rw a in
       judged-not n 1 refl v
 
-  pub two-second : (s : Sizes) → sizesOf n ≡ Known s → (r : Refusal) → sizesOf o ≡ Refused r → Refused (refusal 1) ≡ twoOf n t top bits o u top2 bits2 x y
+  pub two-second : (s : Sizes) → sizesOf n ≡ Known s → (r : Refusal) → sizesOf o ≡ Refused r
+      → Refused (refusal 1) ≡ twoOf n t top bits o u top2 bits2 x y
   unfolding twoOf
   two-second s q r q₂ =
       let a : known n ≡ true = known-of n s q .0 in
@@ -240,8 +255,10 @@ module _ (n : ℕ) (t : Tally) (top bits : List ℕ) (o : ℕ) (u : Tally) (top2
   two-rest s s₂ q q₂ p r w v z e hp hr hw hv hz he =
       let a = known-of n s q in
       let b = known-of o s₂ q₂ in
-      let p′ : roomy (sizesAt n) (length top) (length bits) ≡ p = ap (λ (k : Sizes). roomy k (length top) (length bits)) (sym (a .1)) ∙ sym hp in
-      let r′ : roomy (sizesAt o) (length top2) (length bits2) ≡ r = ap (λ (k : Sizes). roomy k (length top2) (length bits2)) (sym (b .1)) ∙ sym hr in
+      let p′ : roomy (sizesAt n) (length top) (length bits) ≡ p =
+      ap (λ (k : Sizes). roomy k (length top) (length bits)) (sym (a .1)) ∙ sym hp in
+      let r′ : roomy (sizesAt o) (length top2) (length bits2) ≡ r =
+      ap (λ (k : Sizes). roomy k (length top2) (length bits2)) (sym (b .1)) ∙ sym hr in
       let w′ : roomy (sizesAt n) x y ≡ w = ap (λ (k : Sizes). roomy k x y) (sym (a .1)) ∙ sym hw in
       let v′ : sound1 ≡ v = ap (λ (k : Sizes). isFilter (k .top) (k .blocks) top bits (t .count) (t .boundary)) (sym (a .1)) ∙ sym hv in
       let z′ : sound2 ≡ z = ap (λ (k : Sizes). isFilter (k .top) (k .blocks) top2 bits2 (u .count) (u .boundary)) (sym (b .1)) ∙ sym hz in
@@ -262,7 +279,8 @@ module _ (n : ℕ) (t : Tally) (top bits : List ℕ) (o : ℕ) (u : Tally) (top2
   two-pass v =
       let a = passed (known n) (cond (known o) after1 (refused 1)) 1 (sym chained ∙ v) in
       let b = passed (known o) after1 1 (a .1) in
-      let p = passed (roomy (sizesAt n) (length top) (length bits)) (cond (roomy (sizesAt o) (length top2) (length bits2)) after3 (refused 3)) 3 (b .1) in
+      let p = passed (roomy (sizesAt n) (length top) (length bits))
+      (cond (roomy (sizesAt o) (length top2) (length bits2)) after3 (refused 3)) 3 (b .1) in
       let q = passed (roomy (sizesAt o) (length top2) (length bits2)) after3 3 (p .1) in
       let w = passed (roomy (sizesAt n) x y) after4 3 (q .1) in
       let f = passed sound1 (cond sound2 (cond (eqb n o) taken (refused 9)) (refused 8)) 8 (w .1) in
@@ -281,7 +299,9 @@ module _ (n : ℕ) (t : Tally) (top bits : List ℕ) (o : ℕ) (u : Tally) (top2
       after3 = cond (roomy (sizesAt n) x y) after4 (refused 3)
 
       after1 : Verdict
-      after1 = cond (roomy (sizesAt n) (length top) (length bits)) (cond (roomy (sizesAt o) (length top2) (length bits2)) after3 (refused 3)) (refused 3)
+      after1 =
+          cond (roomy (sizesAt n) (length top) (length bits))
+          (cond (roomy (sizesAt o) (length top2) (length bits2)) after3 (refused 3)) (refused 3)
 
 -- two tests of number 3 before the rest
 abbrev pub short : Verdict → Bool → Bool → Verdict
@@ -293,9 +313,11 @@ pub two-alone : (n : ℕ) (t : Tally) (top bits : List ℕ) (o : ℕ) (u : Tally
     ≡ verdict (filtersLent (recordAt n t) top bits (recordAt o u) top2 bits2)
 two-alone n t top bits o u top2 bits2 =
     ap (λ (v : Verdict). cond (known n) (cond (known o) v (refused 1)) (refused 1))
-    (go (leb (configAt n .M) (length top)) (leb (blocks (configAt n)) (length bits)) (leb (configAt o .M) (length top2)) (leb (blocks (configAt o)) (length bits2))
+    (go (leb (configAt n .M) (length top)) (leb (blocks (configAt n)) (length bits)) (leb (configAt o .M) (length top2))
+    (leb (blocks (configAt o)) (length bits2))
     (cond (isFilter (configAt n .M) (blocks (configAt n)) top bits (t .count) (t .boundary))
-    (cond (isFilter (configAt o .M) (blocks (configAt o)) top2 bits2 (u .count) (u .boundary)) (cond (eqb n o) taken (refused 9)) (refused 8)) (refused 8)))
+    (cond (isFilter (configAt o .M) (blocks (configAt o)) top2 bits2 (u .count) (u .boundary)) (cond (eqb n o) taken (refused 9))
+    (refused 8)) (refused 8)))
   where
     go : (a b c d : Bool) (v : Verdict) → short (short (short v a b) c d) a b ≡ short (short v c d) a b
     go true true c d v = refl
@@ -309,7 +331,8 @@ module _ (mask size : ℕ) where
   mask-is : (a b : Bool) → sizeFits size ≡ a → maskFits mask size ≡ b
       → answer (cond a (cond b taken (refused 7)) (refused 6)) (λ r. masks.Refused (refusal r)) masks.Fits ≡ maskOf mask size
   unfolding maskOf
-  mask-is a b ha hb = sym (ap₂ (λ (x y : Bool). answer (cond x (cond y taken (refused 7)) (refused 6)) (λ r. masks.Refused (refusal r)) masks.Fits) ha hb)
+  mask-is a b ha hb =
+      sym (ap₂ (λ (x y : Bool). answer (cond x (cond y taken (refused 7)) (refused 6)) (λ r. masks.Refused (refusal r)) masks.Fits) ha hb)
 
   pub mask-none : size < 1 → masks.Refused (refusal 6) ≡ maskOf mask size
   mask-none h = mask-is false (maskFits mask size) (ap (λ (b : Bool). b && leb size largestMaskSize) (lt-leb 1 size h)) refl
@@ -335,7 +358,8 @@ module _ (mask size : ℕ) where
           (lt-ltb mask (2 ^ size) (omega (arith, h, lt-div-mul-add {a = mask} (pow-pos size), ap (λ (x : ℕ). x * 2 ^ size) h)))
 
   -- what the answer tells
-  pub mask-told : maskOf mask size ≡ masks.Fits → (verdict (isMask mask size) ≡ taken) × (1 ≤ size) × (size ≤ largestMaskSize) × (mask < 2 ^ size)
+  pub mask-told : maskOf mask size ≡ masks.Fits
+      → (verdict (isMask mask size) ≡ taken) × (1 ≤ size) × (size ≤ largestMaskSize) × (mask < 2 ^ size)
   unfolding maskOf
   mask-told q = go (leb 1 size) (leb size largestMaskSize) (maskFits mask size) refl refl refl q
     where
@@ -353,11 +377,13 @@ module _ (mask size : ℕ) where
           let t : _≡_ {A = ℕ} 0 1 = cc in
           absurd (omega arith)
 
-  pub mask-refused : (r : Refusal) → maskOf mask size ≡ masks.Refused r → (k : ℕ) × (verdict (isMask mask size) ≡ refused k) × (r ≡ refusal k)
+  pub mask-refused : (r : Refusal) → maskOf mask size ≡ masks.Refused r
+      → (k : ℕ) × (verdict (isMask mask size) ≡ refused k) × (r ≡ refusal k)
   unfolding maskOf
   mask-refused r q = go (verdict (isMask mask size)) q
     where
-      go : (v : Verdict) → answer v (λ i. masks.Refused (refusal i)) masks.Fits ≡ masks.Refused r → (k : ℕ) × (v ≡ refused k) × (r ≡ refusal k)
+      go : (v : Verdict) → answer v (λ i. masks.Refused (refusal i)) masks.Fits ≡ masks.Refused r
+          → (k : ℕ) × (v ≡ refused k) × (r ≡ refusal k)
       go taken e =
           let z : _≡_ {A = ℕ} 0 1 = cc in
           absurd (omega arith)

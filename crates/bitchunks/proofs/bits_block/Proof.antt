@@ -10,12 +10,6 @@ use Rattle.bitchunks.proofs.Walk.{bits-in, bits-past}
 use Rattle.bitchunks.proofs.bits_block.Statement.{statement}
 use Rattle.bitchunks.proofs.bits_block.Tie as tie
 
-mul-result : tie.Need-mul-result
-mul-result c = search needs
-
-shared-slice-read-result : tie.Need-shared-slice-read-result
-shared-slice-read-result c = search needs
-
 returns : tie.Need-returns
 returns c =
     let s = c .before .before in
@@ -29,4 +23,4 @@ returns-2 c =
     sym (bits-past 0 (take (s .args .n) (now (s .args .blocks))) (s .args .i) (omega (arith, l, c .if1 .left)))
 
 pub bits-block-spec : {M : Type 1} → statement M
-bits-block-spec = tie.close (tie.spec mul-result shared-slice-read-result returns returns-2)
+bits-block-spec = tie.close (tie.spec (λ c. search needs) (λ c. search needs) returns returns-2)

@@ -8,12 +8,6 @@ use Rattle.bitchunks.proofs.bits_end.Tie as tie
 returns : tie.Need-returns
 returns c = record { within = omega arith; past = λ i a b. inl (omega (arith, c .if1 .taken)) }
 
-add-if2 : tie.Need-add-if2
-add-if2 c = search needs
-
-add-result : tie.Need-add-result
-add-result c = search needs
-
 returns-2 : tie.Need-returns-2
 returns-2 c = record { within = omega (arith, c .if2 .taken); past = λ i a b. inr a }
 
@@ -21,4 +15,4 @@ returns-3 : tie.Need-returns-3
 returns-3 c = record { within = omega arith; past = λ i a b. absurd (omega arith) }
 
 pub bits-end-spec : {M : Type 1} → statement M
-bits-end-spec = tie.close (tie.spec returns add-if2 add-result returns-2 returns-3)
+bits-end-spec = tie.close (tie.spec returns (λ c. search needs) (λ c. search needs) returns-2 returns-3)

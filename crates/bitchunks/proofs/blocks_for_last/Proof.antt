@@ -8,11 +8,8 @@ use Rattle.bitchunks.proofs.blocks_for_last.Tie as tie
 returns : tie.Need-returns
 returns c = rw (eq-eqb _ _ (c .before .if1 .taken), c .if2 .taken)
 
-add-result : tie.Need-add-result
-add-result c = search needs
-
 returns-2 : tie.Need-returns-2
 returns-2 c = ⊎-elim (λ w. rw (eq-eqb _ _ (w .0 .taken), w .1 .left)) (λ w. rw (ne-eqb _ _ (w .left))) (c .if1 .came)
 
 pub blocks-for-last-spec : {M : Type 1} → statement M
-blocks-for-last-spec = tie.close (tie.spec returns add-result returns-2)
+blocks-for-last-spec = tie.close (tie.spec returns (λ c. search needs) returns-2)

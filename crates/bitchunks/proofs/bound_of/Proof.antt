@@ -7,11 +7,8 @@ use Rattle.bitchunks.proofs.bound_of.Tie as tie
 returns : tie.Need-returns
 returns c = rw (le-leb _ _ (c .if1 .taken))
 
-mul-result : tie.Need-mul-result
-mul-result c = search needs
-
 returns-2 : tie.Need-returns-2
 returns-2 c = rw (lt-leb _ _ (c .if1 .left))
 
 pub bound-of-spec : {M : Type 1} → statement M
-bound-of-spec = tie.close (tie.spec returns mul-result returns-2)
+bound-of-spec = tie.close (tie.spec returns (λ c. search needs) returns-2)

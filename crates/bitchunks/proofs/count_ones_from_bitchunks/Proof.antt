@@ -12,12 +12,6 @@ first-xor-ones-requires c κs =
     let p = c .before .before .before .before .pre in
     (p .0, (p .1 .0, p .1 .1 .0))
 
-enum-known-total : tie.Need-enum-known-total
-enum-known-total c = search needs
-
-lsb-index-lower-bound-requires : tie.Need-lsb-index-lower-bound-requires
-lsb-index-lower-bound-requires c κs = search needs
-
 count-xor-ones-requires : tie.Need-count-xor-ones-requires
 count-xor-ones-requires c κs =
     let p = c .before .before .before .before .before .before .before .before .before .pre in
@@ -35,9 +29,6 @@ bound-of-requires c κs =
     let f = subst (FirstOf _ _ _ _ _ _) (c .before .before .before .total .given .1) (c .before .before .before .before .before .first-xor-ones .ensures) in
     omega (arith, f .near, f .under, c .before .lsb-index-lower-bound .ensures, c .before .before .before .before .before .before .before .before .before .before .pre .0 .2 .small)
 
-enum-known-total-2 : tie.Need-enum-known-total-2
-enum-known-total-2 c = search needs
-
 returns : tie.Need-returns
 returns c =
     let p = c .before .before .before .before .before .before .before .before .before .before .before .pre in
@@ -54,11 +45,11 @@ count-ones-from-bitchunks-spec =
     tie.close
     (tie.spec
     first-xor-ones-requires
-    enum-known-total
-    lsb-index-lower-bound-requires
+    (λ c. search needs)
+    (λ c κs. search needs)
     count-xor-ones-requires
     add-all
     bound-of-requires
-    enum-known-total-2
+    (λ c. search needs)
     returns
     returns-2)

@@ -7,23 +7,8 @@ use borrow.Author.Needs.{needs}
 use Rattle.bitchunks.proofs.count_ones_from_msb_and_lsb.Statement.{statement}
 use Rattle.bitchunks.proofs.count_ones_from_msb_and_lsb.Tie as tie
 
-num-blocks-requires : tie.Need-num-blocks-requires
-num-blocks-requires c κs = search needs
-
-lsb-index-lower-bound-requires : tie.Need-lsb-index-lower-bound-requires
-lsb-index-lower-bound-requires c κs = search needs
-
-least-requires : tie.Need-least-requires
-least-requires c κs = search needs
-
-count-ones-requires : tie.Need-count-ones-requires
-count-ones-requires c κs = search needs
-
 add-total : tie.Need-add-total
 add-total c = omega (arith, members-few _ _ _ (c .count-ones .ensures))
-
-bound-of-requires : tie.Need-bound-of-requires
-bound-of-requires c κs = search needs
 
 returns : tie.Need-returns
 returns c k edge top S z e H el =
@@ -33,10 +18,10 @@ pub count-ones-from-msb-and-lsb-spec : {M : Type 1} → statement M
 count-ones-from-msb-and-lsb-spec =
     tie.close
     (tie.spec
-    num-blocks-requires
-    lsb-index-lower-bound-requires
-    least-requires
-    count-ones-requires
+    (λ c κs. search needs)
+    (λ c κs. search needs)
+    (λ c κs. search needs)
+    (λ c κs. search needs)
     add-total
-    bound-of-requires
+    (λ c κs. search needs)
     returns)

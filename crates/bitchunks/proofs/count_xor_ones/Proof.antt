@@ -17,19 +17,10 @@ abbrev μ-loop : tie.MeasureT-loop
 loop-holds : tie.Need-loop-holds Inv-loop μ-loop
 loop-holds c = total-start (c .before .before .before .before .pre .0 .2) (c .before .before .before .before .pre .1 .2)
 
-next-xor-chunk-requires : tie.Need-next-xor-chunk-requires Inv-loop μ-loop
-next-xor-chunk-requires c κs = search needs
-
-enum-known-block : tie.Need-enum-known-block Inv-loop μ-loop
-enum-known-block c = search needs
-
 returns : tie.Need-returns Inv-loop μ-loop
 returns c =
     let l = c .before .before .before .before .before .before .loop .inv in
     total-end l _ (c .if1 .taken) (total-next l (c .before .before .before .block .given .1) (c .before .before .before .before .before .next-xor-chunk .ensures) .gap)
-
-ones-of-requires : tie.Need-ones-of-requires Inv-loop μ-loop
-ones-of-requires c κs = search needs
 
 loop-less : tie.Need-loop-less Inv-loop μ-loop
 loop-less c =
@@ -44,9 +35,6 @@ loop-again c =
 add-total : tie.Need-add-total Inv-loop μ-loop
 add-total c = omega (arith, total-few (loop-again c), c .before .before .before .before .before .before .before .before .before .before .before .before .pre .0 .2 .small)
 
-enum-told : tie.Need-enum-told Inv-loop μ-loop
-enum-told c = search needs
-
 returns-2 : tie.Need-returns-2 Inv-loop μ-loop
 returns-2 c =
     let l = c .before .before .before .loop .inv in
@@ -59,12 +47,12 @@ count-xor-ones-spec =
     Inv-loop
     μ-loop
     loop-holds
-    next-xor-chunk-requires
-    enum-known-block
+    (λ c κs. search needs)
+    (λ c. search needs)
     returns
-    ones-of-requires
+    (λ c κs. search needs)
     add-total
     loop-less
     loop-again
-    enum-told
+    (λ c. search needs)
     returns-2)

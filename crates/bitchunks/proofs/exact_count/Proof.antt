@@ -5,9 +5,6 @@ use borrow.Author.Needs.{needs}
 use Rattle.bitchunks.proofs.exact_count.Statement.{statement}
 use Rattle.bitchunks.proofs.exact_count.Tie as tie
 
-count-ones-requires : tie.Need-count-ones-requires
-count-ones-requires c κs = search needs
-
 add-result : tie.Need-add-result
 add-result c = omega (arith, members-few _ _ _ (c .count-ones .ensures))
 
@@ -15,4 +12,4 @@ returns : tie.Need-returns
 returns c m k edge top S z e H = exact-is z H _ e _ (c .count-ones .ensures)
 
 pub exact-count-spec : {M : Type 1} → statement M
-exact-count-spec = tie.close (tie.spec count-ones-requires add-result returns)
+exact-count-spec = tie.close (tie.spec (λ c κs. search needs) add-result returns)

@@ -5,11 +5,8 @@ use Rattle.sets.proofs.Counts.{onward-all}
 use Rattle.bitchunks.proofs.exact_xor_count.Statement.{statement}
 use Rattle.bitchunks.proofs.exact_xor_count.Tie as tie
 
-count-xor-ones-requires : tie.Need-count-xor-ones-requires
-count-xor-ones-requires c κs = search needs
-
 returns : tie.Need-returns
 returns c = c .count-xor-ones .ensures ∙ onward-all _ _
 
 pub exact-xor-count-spec : {M : Type 1} → statement M
-exact-xor-count-spec = tie.close (tie.spec count-xor-ones-requires returns)
+exact-xor-count-spec = tie.close (tie.spec (λ c κs. search needs) returns)

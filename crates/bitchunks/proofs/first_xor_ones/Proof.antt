@@ -20,15 +20,6 @@ loop-holds c =
     let p = c .before .before .before .before .pre in
     (total-start (p .0 .2) (p .1 .0 .2), p .1 .1)
 
-next-xor-chunk-requires : tie.Need-next-xor-chunk-requires Inv-loop μ-loop
-next-xor-chunk-requires c κs = search needs
-
-enum-known-block : tie.Need-enum-known-block Inv-loop μ-loop
-enum-known-block c = search needs
-
-ones-of-requires : tie.Need-ones-of-requires Inv-loop μ-loop
-ones-of-requires c κs = search needs
-
 add-total : tie.Need-add-total Inv-loop μ-loop
 add-total c =
     let l = c .before .before .before .before .before .loop .inv in
@@ -57,9 +48,6 @@ loop-again c =
     let x = total-next (l .0) (c .before .before .before .block .given .1) (c .before .before .before .before .before .next-xor-chunk .ensures) in
     (total-turn (l .0) _ x (omega arith) (c .before .ones-of .ensures), c .if1 .left)
 
-enum-told : tie.Need-enum-told Inv-loop μ-loop
-enum-told c = search needs
-
 returns-2 : tie.Need-returns-2 Inv-loop μ-loop
 returns-2 c =
     let l = c .before .before .before .loop .inv in
@@ -72,13 +60,13 @@ first-xor-ones-spec =
     Inv-loop
     μ-loop
     loop-holds
-    next-xor-chunk-requires
-    enum-known-block
-    ones-of-requires
+    (λ c κs. search needs)
+    (λ c. search needs)
+    (λ c κs. search needs)
     add-total
     blocks-for-last-requires
     returns
     loop-less
     loop-again
-    enum-told
+    (λ c. search needs)
     returns-2)

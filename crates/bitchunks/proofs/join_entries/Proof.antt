@@ -23,23 +23,11 @@ loop-holds c S t = t
 row-entry-requires : tie.Need-row-entry-requires Inv-loop μ-loop
 row-entry-requires c κs = (c .before .before .before .pre .0, entry-room _ (c .loop-test .taken) (c .before .before .before .pre .1))
 
-into-index-requires : tie.Need-into-index-requires Inv-loop μ-loop
-into-index-requires c κs = search needs
-
 returns : tie.Need-returns Inv-loop μ-loop
 returns c S t =
     let l = c .before .before .before .loop-test .taken in
     merge-stop (c .before .before .before .before .loop .inv S t) _ (length-numbers _ _ _) l (entry-at _ l _ _ (c .before .before .row-entry .ensures))
     (λ e. c .if1 .taken (c .before .into-index .ensures ∙ e))
-
-with-bucket-requires : tie.Need-with-bucket-requires Inv-loop μ-loop
-with-bucket-requires c κs = search needs
-
-add-at : tie.Need-add-at Inv-loop μ-loop
-add-at c = search needs
-
-loop-less : tie.Need-loop-less Inv-loop μ-loop
-loop-less c = search needs
 
 loop-again : tie.Need-loop-again Inv-loop μ-loop
 loop-again c S t =
@@ -59,10 +47,10 @@ join-entries-spec =
     μ-loop
     loop-holds
     row-entry-requires
-    into-index-requires
+    (λ c κs. search needs)
     returns
-    with-bucket-requires
-    add-at
-    loop-less
+    (λ c κs. search needs)
+    (λ c. search needs)
+    (λ c. search needs)
     loop-again
     returns-2)

@@ -5,14 +5,8 @@ use borrow.Author.Needs.{needs}
 use Rattle.bitchunks.proofs.masked_block.Statement.{statement}
 use Rattle.bitchunks.proofs.masked_block.Tie as tie
 
-returns : tie.Need-returns
-returns c = search needs
-
-turn-mask-requires : tie.Need-turn-mask-requires
-turn-mask-requires c κs = search needs
-
 returns-2 : tie.Need-returns-2
 returns-2 c = ap (bitAnd (c .before .before .args .block)) (c .turn-mask .ensures)
 
 pub masked-block-spec : {M : Type 1} → statement M
-masked-block-spec = tie.close (tie.spec returns turn-mask-requires returns-2)
+masked-block-spec = tie.close (tie.spec (λ c. search needs) (λ c κs. search needs) returns-2)

@@ -15,23 +15,8 @@ Inv-loop top count blocks n passed i block₀ at₀ block at = Merging (filterSe
 abbrev μ-loop : tie.MeasureT-loop
 μ-loop top count blocks n passed i block₀ at₀ block at = count - at
 
-bits-block-requires : tie.Need-bits-block-requires Inv-loop μ-loop
-bits-block-requires c κs = search needs
-
 loop-holds : tie.Need-loop-holds Inv-loop μ-loop
 loop-holds c = merge-start 0 _ _ _ (omega arith) (c .bits-block .ensures) (c .before .before .before .pre .2)
-
-mul-into-usize : tie.Need-mul-into-usize Inv-loop μ-loop
-mul-into-usize c = search needs
-
-shared-slice-read-into-usize : tie.Need-shared-slice-read-into-usize Inv-loop μ-loop
-shared-slice-read-into-usize c = search needs
-
-into-usize-requires : tie.Need-into-usize-requires Inv-loop μ-loop
-into-usize-requires c κs = search needs
-
-into-index-requires : tie.Need-into-index-requires Inv-loop μ-loop
-into-index-requires c κs = search needs
 
 returns : tie.Need-returns Inv-loop μ-loop
 returns c =
@@ -40,15 +25,6 @@ returns c =
     let l = c .before .before .before .before .loop-test .taken in
     merge-stop (k .loop .inv) _ (cell-count _ _ (s .pre .0)) l (cell-entry _ _ (s .pre .0) _ _ l (c .before .before .into-usize .ensures))
     (λ e. c .if1 .taken (c .before .into-index .ensures ∙ e))
-
-with-bucket-requires : tie.Need-with-bucket-requires Inv-loop μ-loop
-with-bucket-requires c κs = search needs
-
-add-at : tie.Need-add-at Inv-loop μ-loop
-add-at c = search needs
-
-loop-less : tie.Need-loop-less Inv-loop μ-loop
-loop-less c = search needs
 
 loop-again : tie.Need-loop-again Inv-loop μ-loop
 loop-again c =
@@ -67,15 +43,15 @@ merge-spec =
     (tie.spec
     Inv-loop
     μ-loop
-    bits-block-requires
+    (λ c κs. search needs)
     loop-holds
-    mul-into-usize
-    shared-slice-read-into-usize
-    into-usize-requires
-    into-index-requires
+    (λ c. search needs)
+    (λ c. search needs)
+    (λ c κs. search needs)
+    (λ c κs. search needs)
     returns
-    with-bucket-requires
-    add-at
-    loop-less
+    (λ c κs. search needs)
+    (λ c. search needs)
+    (λ c. search needs)
     loop-again
     returns-2)

@@ -6,14 +6,8 @@ use Rattle.bitchunks.proofs.Walk.{cell-count, step-none, step-ahead, st
 use Rattle.bitchunks.proofs.next_chunk.Statement.{statement}
 use Rattle.bitchunks.proofs.next_chunk.Tie as tie
 
-reach-requires : tie.Need-reach-requires
-reach-requires c κs = search needs
-
 returns : tie.Need-returns
 returns c = step-none (c .before .reach .ensures _ (cell-count _ _ (c .before .before .before .before .pre .1))) (c .if1 .taken)
-
-sub-i : tie.Need-sub-i
-sub-i c = search needs
 
 merge-requires : tie.Need-merge-requires
 merge-requires c κs =
@@ -30,4 +24,4 @@ returns-2 c =
     (step-under r z, step-gap r z, c .merge .ensures)
 
 pub next-chunk-spec : {M : Type 1} → statement M
-next-chunk-spec = tie.close (tie.spec reach-requires returns sub-i merge-requires returns-2)
+next-chunk-spec = tie.close (tie.spec (λ c κs. search needs) returns (λ c. search needs) merge-requires returns-2)

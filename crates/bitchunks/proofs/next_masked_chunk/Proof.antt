@@ -21,9 +21,6 @@ next-chunk-requires c κs =
     let s = c .before .before .before in
     (s .pre .0 .0, s .pre .0 .1, c .loop .inv .ahead)
 
-enum-known-block : tie.Need-enum-known-block Inv-loop μ-loop
-enum-known-block c = search needs
-
 masked-block-requires : tie.Need-masked-block-requires Inv-loop μ-loop
 masked-block-requires c κs =
     let k = c .before in
@@ -46,9 +43,6 @@ loop-again c =
     let k = c .before .before .before in
     skip-turn (k .before .before .before .loop .inv) (k .block .given .1) (k .before .before .next-chunk .ensures) (c .before .masked-block .ensures) (c .if1 .left)
 
-enum-told : tie.Need-enum-told Inv-loop μ-loop
-enum-told c = search needs
-
 returns-2 : tie.Need-returns-2 Inv-loop μ-loop
 returns-2 c =
     let k = c .before .before in
@@ -62,10 +56,10 @@ next-masked-chunk-spec =
     μ-loop
     loop-holds
     next-chunk-requires
-    enum-known-block
+    (λ c. search needs)
     masked-block-requires
     returns
     loop-less
     loop-again
-    enum-told
+    (λ c. search needs)
     returns-2)

@@ -6,26 +6,14 @@ use Rattle.bitchunks.proofs.Giving.{seek-start, seek-turn, seek-end, se
 use Rattle.bitchunks.proofs.next_one.Statement.{statement}
 use Rattle.bitchunks.proofs.next_one.Tie as tie
 
-take-one-requires : tie.Need-take-one-requires
-take-one-requires c κs = search needs
-
 returns : tie.Need-returns
 returns c = c .take-one .ensures _ _ (c .before .before .before .before .pre .0 .2)
-
-next-masked-chunk-requires : tie.Need-next-masked-chunk-requires
-next-masked-chunk-requires c κs = search needs
-
-enum-known-next : tie.Need-enum-known-next
-enum-known-next c = search needs
 
 take-one-requires-2 : tie.Need-take-one-requires-2
 take-one-requires-2 c κs =
     let k = c .before .before .before in
     let f = subst (NextKept _ _ _) (c .before .next .given .1) (k .next-masked-chunk .ensures) in
     (f .0, f .1 .2 .ahead .small)
-
-enum-told : tie.Need-enum-told
-enum-told c = search needs
 
 returns-2 : tie.Need-returns-2
 returns-2 c =
@@ -44,11 +32,11 @@ pub next-one-spec : {M : Type 1} → statement M
 next-one-spec =
     tie.close
     (tie.spec
-    take-one-requires
+    (λ c κs. search needs)
     returns
-    next-masked-chunk-requires
-    enum-known-next
+    (λ c κs. search needs)
+    (λ c. search needs)
     take-one-requires-2
-    enum-told
+    (λ c. search needs)
     returns-2
     returns-3)

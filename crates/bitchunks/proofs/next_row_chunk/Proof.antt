@@ -4,14 +4,8 @@ use Rattle.bitchunks.proofs.Walk.{step-none, step-ahead, step-under, st
 use Rattle.bitchunks.proofs.next_row_chunk.Statement.{statement}
 use Rattle.bitchunks.proofs.next_row_chunk.Tie as tie
 
-row-reach-requires : tie.Need-row-reach-requires
-row-reach-requires c κs = search needs
-
 returns : tie.Need-returns
 returns c = step-none (c .before .row-reach .ensures) (c .if1 .taken)
-
-sub-i : tie.Need-sub-i
-sub-i c = search needs
 
 row-merge-requires : tie.Need-row-merge-requires
 row-merge-requires c κs = (c .before .before .before .pre .0, step-ahead (c .before .row-reach .ensures) (c .if1 .left))
@@ -24,4 +18,4 @@ returns-2 c =
 
 pub next-row-chunk-spec : {M : Type 1} → statement M
 next-row-chunk-spec =
-    tie.close (tie.spec row-reach-requires returns sub-i row-merge-requires returns-2)
+    tie.close (tie.spec (λ c κs. search needs) returns (λ c. search needs) row-merge-requires returns-2)

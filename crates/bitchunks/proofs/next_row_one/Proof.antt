@@ -20,9 +20,6 @@ loop-holds c = seek-start _ _ (c .before .pre .1)
 next-row-chunk-requires : tie.Need-next-row-chunk-requires Inv-loop μ-loop
 next-row-chunk-requires c κs = (c .before .before .before .pre .0, c .before .loop .inv .ahead)
 
-enum-known-next : tie.Need-enum-known-next Inv-loop μ-loop
-enum-known-next c = search needs
-
 loop-less : tie.Need-loop-less Inv-loop μ-loop
 loop-less c =
     let f = subst (Next _ _ _) (c .before .next .given .1) (c .before .before .before .next-row-chunk .ensures) in
@@ -32,9 +29,6 @@ loop-again : tie.Need-loop-again Inv-loop μ-loop
 loop-again c =
     let k = c .before .before .before in
     seek-turn (k .before .before .loop .inv) (k .before .loop-test .taken) (subst (Next _ _ _) (c .before .next .given .1) (k .next-row-chunk .ensures))
-
-enum-told : tie.Need-enum-told Inv-loop μ-loop
-enum-told c = search needs
 
 returns : tie.Need-returns Inv-loop μ-loop
 returns c =
@@ -55,10 +49,10 @@ next-row-one-spec =
     μ-loop
     loop-holds
     next-row-chunk-requires
-    enum-known-next
+    (λ c. search needs)
     loop-less
     loop-again
-    enum-told
+    (λ c. search needs)
     returns
     take-one-requires
     returns-2)

@@ -4,23 +4,11 @@ use Rattle.bitchunks.proofs.Walk.{cross-none, cross-ahead, cross-other,
 use Rattle.bitchunks.proofs.next_row_xor_chunk.Statement.{statement}
 use Rattle.bitchunks.proofs.next_row_xor_chunk.Tie as tie
 
-row-reach-requires : tie.Need-row-reach-requires
-row-reach-requires c κs = search needs
-
-row-reach-requires-2 : tie.Need-row-reach-requires-2
-row-reach-requires-2 c κs = search needs
-
-most-requires : tie.Need-most-requires
-most-requires c κs = search needs
-
 returns : tie.Need-returns
 returns c =
     let k = c .before in
     let s = k .before .before .before .before .before in
     cross-none (s .pre .0 .1) (s .pre .1 .1) (k .before .before .row-reach .ensures) (k .before .row-reach2 .ensures) _ (k .most .ensures) (c .if1 .taken)
-
-sub-i : tie.Need-sub-i
-sub-i c = search needs
 
 row-merge-requires : tie.Need-row-merge-requires
 row-merge-requires c κs =
@@ -44,11 +32,11 @@ pub next-row-xor-chunk-spec : {M : Type 1} → statement M
 next-row-xor-chunk-spec =
     tie.close
     (tie.spec
-    row-reach-requires
-    row-reach-requires-2
-    most-requires
+    (λ c κs. search needs)
+    (λ c κs. search needs)
+    (λ c κs. search needs)
     returns
-    sub-i
+    (λ c. search needs)
     row-merge-requires
     row-merge-requires-2
     returns-2)

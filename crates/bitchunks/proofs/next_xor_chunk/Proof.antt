@@ -6,15 +6,6 @@ use Rattle.bitchunks.proofs.Walk.{cell-count, cross-none, cross-ahead, 
 use Rattle.bitchunks.proofs.next_xor_chunk.Statement.{statement}
 use Rattle.bitchunks.proofs.next_xor_chunk.Tie as tie
 
-reach-requires : tie.Need-reach-requires
-reach-requires c κs = search needs
-
-reach-requires-2 : tie.Need-reach-requires-2
-reach-requires-2 c κs = search needs
-
-most-requires : tie.Need-most-requires
-most-requires c κs = search needs
-
 returns : tie.Need-returns
 returns c =
     let k = c .before in
@@ -22,9 +13,6 @@ returns c =
     let x = k .before .before .reach .ensures (take (s .args .n) (now (s .args .blocks))) (cell-count _ _ (s .pre .0 .1)) in
     let y = k .before .reach2 .ensures (take (s .args .n2) (now (s .args .blocks2))) (cell-count _ _ (s .pre .1 .1)) in
     cross-none (s .pre .0 .2) (s .pre .1 .2) x y _ (k .most .ensures) (c .if1 .taken)
-
-sub-i : tie.Need-sub-i
-sub-i c = search needs
 
 merge-requires : tie.Need-merge-requires
 merge-requires c κs =
@@ -54,11 +42,11 @@ pub next-xor-chunk-spec : {M : Type 1} → statement M
 next-xor-chunk-spec =
     tie.close
     (tie.spec
-    reach-requires
-    reach-requires-2
-    most-requires
+    (λ c κs. search needs)
+    (λ c κs. search needs)
+    (λ c κs. search needs)
     returns
-    sub-i
+    (λ c. search needs)
     merge-requires
     merge-requires-2
     returns-2)

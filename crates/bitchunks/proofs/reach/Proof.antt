@@ -4,27 +4,6 @@ use Rattle.bitchunks.proofs.Walk.{cell-count, cell-entry, reach-end, re
 use Rattle.bitchunks.proofs.reach.Statement.{statement}
 use Rattle.bitchunks.proofs.reach.Tie as tie
 
-bits-end-requires : tie.Need-bits-end-requires
-bits-end-requires c κs = search needs
-
-mul-into-usize : tie.Need-mul-into-usize
-mul-into-usize c = search needs
-
-shared-slice-read-into-usize : tie.Need-shared-slice-read-into-usize
-shared-slice-read-into-usize c = search needs
-
-into-usize-requires : tie.Need-into-usize-requires
-into-usize-requires c κs = search needs
-
-into-index-requires : tie.Need-into-index-requires
-into-index-requires c κs = search needs
-
-add-most : tie.Need-add-most
-add-most c = search needs
-
-most-requires : tie.Need-most-requires
-most-requires c κs = search needs
-
 returns : tie.Need-returns
 returns c bits e =
     let s = c .before .before .before .before .before .before .before in
@@ -41,12 +20,12 @@ pub reach-spec : {M : Type 1} → statement M
 reach-spec =
     tie.close
     (tie.spec
-    bits-end-requires
-    mul-into-usize
-    shared-slice-read-into-usize
-    into-usize-requires
-    into-index-requires
-    add-most
-    most-requires
+    (λ c κs. search needs)
+    (λ c. search needs)
+    (λ c. search needs)
+    (λ c κs. search needs)
+    (λ c κs. search needs)
+    (λ c. search needs)
+    (λ c κs. search needs)
     returns
     returns-2)

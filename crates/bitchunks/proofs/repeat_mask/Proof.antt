@@ -14,15 +14,6 @@ abbrev μ-loop : tie.MeasureT-loop
 loop-holds : tie.Need-loop-holds Inv-loop μ-loop
 loop-holds c = laying-start _ _ (c .pre .0) (c .pre .1) (c .pre .2)
 
-shl-block : tie.Need-shl-block Inv-loop μ-loop
-shl-block c = omega arith
-
-mul-i : tie.Need-mul-i Inv-loop μ-loop
-mul-i c = omega arith
-
-loop-less : tie.Need-loop-less Inv-loop μ-loop
-loop-less c = omega arith
-
 loop-again : tie.Need-loop-again Inv-loop μ-loop
 loop-again c = laying-turn _ _ _ _ (c .loop-test .taken) (c .before .loop .inv)
 
@@ -31,4 +22,4 @@ returns c = laying-end _ _ _ _ (c .loop-test .left) (c .before .loop .inv)
 
 pub repeat-mask-spec : {M : Type 1} → statement M
 repeat-mask-spec =
-    tie.close (tie.spec Inv-loop μ-loop loop-holds shl-block mul-i loop-less loop-again returns)
+    tie.close (tie.spec Inv-loop μ-loop loop-holds (λ c. omega arith) (λ c. omega arith) (λ c. omega arith) loop-again returns)

@@ -11,22 +11,10 @@ use Rattle.bitchunks.proofs.row_block.Tie as tie
 returns : tie.Need-returns
 returns c = sym (bits-under _ _ _ (c .if1 .taken))
 
-add-if2 : tie.Need-add-if2
-add-if2 c = search needs
-
 returns-2 : tie.Need-returns-2
 returns-2 c =
     let a = c .before .before .before .before .before .args in
     sym (block-past (a .layout .first) (a .layout .n) (a .layout .at) (a .i) (now (a .row)) (c .if2 .taken))
-
-mul-read-u64 : tie.Need-mul-read-u64
-mul-read-u64 c = search needs
-
-add-read-u64 : tie.Need-add-read-u64
-add-read-u64 c = search needs
-
-read-u64-requires : tie.Need-read-u64-requires
-read-u64-requires c κs = search needs
 
 returns-3 : tie.Need-returns-3
 returns-3 c =
@@ -37,4 +25,4 @@ returns-3 c =
 pub row-block-spec : {M : Type 1} → statement M
 row-block-spec =
     tie.close
-    (tie.spec returns add-if2 returns-2 mul-read-u64 add-read-u64 read-u64-requires returns-3)
+    (tie.spec returns (λ c. search needs) returns-2 (λ c. search needs) (λ c. search needs) (λ c κs. search needs) returns-3)

@@ -12,9 +12,6 @@ mul-read-u16 c = omega (arith, c .before .before .good .0, entry-in _ 2 (c .befo
 read-u16-requires : tie.Need-read-u16-requires
 read-u16-requires c κs = entry-in _ 2 (c .before .before .args .place) (c .if1 .taken) (c .before .before .pre .1)
 
-cast-result : tie.Need-cast-result
-cast-result c = search needs
-
 returns : tie.Need-returns
 returns c = c .read-u16 .ensures ∙ entry-is _ 2 (c .before .before .before .args .place) (c .before .if1 .taken) _
 
@@ -23,9 +20,6 @@ mul-read-u32 c = omega (arith, c .before .before .good .0, entry-in _ 4 (c .befo
 
 read-u32-requires : tie.Need-read-u32-requires
 read-u32-requires c κs = entry-in _ 4 (c .before .before .args .place) (width-four (c .before .before .pre .0) (c .if1 .left)) (c .before .before .pre .1)
-
-cast-result-2 : tie.Need-cast-result-2
-cast-result-2 c = search needs
 
 returns-2 : tie.Need-returns-2
 returns-2 c = c .read-u32 .ensures ∙ entry-is _ 4 (c .before .before .before .args .place) (width-four (c .before .before .before .pre .0) (c .before .if1 .left)) _
@@ -36,9 +30,9 @@ row-entry-spec =
     (tie.spec
     mul-read-u16
     read-u16-requires
-    cast-result
+    (λ c. search needs)
     returns
     mul-read-u32
     read-u32-requires
-    cast-result-2
+    (λ c. search needs)
     returns-2)

@@ -5,14 +5,8 @@ use Rattle.bitchunks.proofs.Walk.{merge-start}
 use Rattle.bitchunks.proofs.row_merge.Statement.{statement}
 use Rattle.bitchunks.proofs.row_merge.Tie as tie
 
-row-block-requires : tie.Need-row-block-requires
-row-block-requires c κs = search needs
-
-join-entries-requires : tie.Need-join-entries-requires
-join-entries-requires c κs = search needs
-
 returns : tie.Need-returns
 returns c = c .join-entries .ensures _ (merge-start _ _ _ _ (omega arith) (c .before .row-block .ensures) (c .before .before .before .pre .1))
 
 pub row-merge-spec : {M : Type 1} → statement M
-row-merge-spec = tie.close (tie.spec row-block-requires join-entries-requires returns)
+row-merge-spec = tie.close (tie.spec (λ c κs. search needs) (λ c κs. search needs) returns)

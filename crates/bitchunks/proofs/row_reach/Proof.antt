@@ -6,20 +6,8 @@ use Rattle.bitchunks.proofs.Rows.{entry-at, entry-room}
 use Rattle.bitchunks.proofs.row_reach.Statement.{statement}
 use Rattle.bitchunks.proofs.row_reach.Tie as tie
 
-bits-end-requires : tie.Need-bits-end-requires
-bits-end-requires c κs = search needs
-
 row-entry-requires : tie.Need-row-entry-requires
 row-entry-requires c κs = (c .before .before .before .before .pre .0 .width, entry-room _ (c .if1 .taken) (c .before .before .before .before .pre .0 .entriesIn))
-
-into-index-requires : tie.Need-into-index-requires
-into-index-requires c κs = search needs
-
-add-most : tie.Need-add-most
-add-most c = search needs
-
-most-requires : tie.Need-most-requires
-most-requires c κs = search needs
 
 returns : tie.Need-returns
 returns c =
@@ -37,10 +25,10 @@ pub row-reach-spec : {M : Type 1} → statement M
 row-reach-spec =
     tie.close
     (tie.spec
-    bits-end-requires
+    (λ c κs. search needs)
     row-entry-requires
-    into-index-requires
-    add-most
-    most-requires
+    (λ c κs. search needs)
+    (λ c. search needs)
+    (λ c κs. search needs)
     returns
     returns-2)

@@ -9,15 +9,6 @@ use Rattle.bitchunks.proofs.Giving.{rest-one}
 use Rattle.bitchunks.proofs.take_one.Statement.{statement}
 use Rattle.bitchunks.proofs.take_one.Tie as tie
 
-from-block-msb-requires : tie.Need-from-block-msb-requires
-from-block-msb-requires c κs = search needs
-
-into-bucket-requires : tie.Need-into-bucket-requires
-into-bucket-requires c κs = search needs
-
-into-block-requires : tie.Need-into-block-requires
-into-block-requires c κs = search needs
-
 returns : tie.Need-returns
 returns c S tops a =
     let s = c .before .before .before in (
@@ -28,4 +19,4 @@ returns c S tops a =
 
 pub take-one-spec : {M : Type 1} → statement M
 take-one-spec =
-    tie.close (tie.spec from-block-msb-requires into-bucket-requires into-block-requires returns)
+    tie.close (tie.spec (λ c κs. search needs) (λ c κs. search needs) (λ c κs. search needs) returns)

@@ -6,23 +6,14 @@ use Rattle.bitchunks.proofs.Mask.{turned}
 use Rattle.bitchunks.proofs.turn_mask.Statement.{statement}
 use Rattle.bitchunks.proofs.turn_mask.Tie as tie
 
-mul-shift : tie.Need-mul-shift
-mul-shift c = search needs
-
-rem-shift : tie.Need-rem-shift
-rem-shift c = search needs
-
 shr-result : tie.Need-shr-result
 shr-result c = lt-of-lt-of-le (mod-lt _ (c .pre .0)) (omega arith)
 
 sub-result : tie.Need-sub-result
 sub-result c = le-of-lt (mod-lt _ (c .pre .0))
 
-shl-result : tie.Need-shl-result
-shl-result c = search needs
-
 returns : tie.Need-returns
 returns c = turned _ _ _ (c .pre .0) (c .pre .1) (c .pre .2)
 
 pub turn-mask-spec : {M : Type 1} → statement M
-turn-mask-spec = tie.close (tie.spec mul-shift rem-shift shr-result sub-result shl-result returns)
+turn-mask-spec = tie.close (tie.spec (λ c. search needs) (λ c. search needs) shr-result sub-result (λ c. search needs) returns)

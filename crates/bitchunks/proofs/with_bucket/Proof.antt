@@ -6,16 +6,10 @@ use borrow.Author.Needs.{needs}
 use Rattle.bitchunks.proofs.with_bucket.Statement.{statement}
 use Rattle.bitchunks.proofs.with_bucket.Tie as tie
 
-into-bit-requires : tie.Need-into-bit-requires
-into-bit-requires c κs = search needs
-
-into-block-requires : tie.Need-into-block-requires
-into-block-requires c κs = search needs
-
 returns : tie.Need-returns
 returns c =
     let e = c .into-block .ensures ∙ ap (λ (x : ℕ). 2 ^ x) (c .before .into-bit .ensures) in
     ap (bitOr (c .before .before .args .block)) e
 
 pub with-bucket-spec : {M : Type 1} → statement M
-with-bucket-spec = tie.close (tie.spec into-bit-requires into-block-requires returns)
+with-bucket-spec = tie.close (tie.spec (λ c κs. search needs) (λ c κs. search needs) returns)

@@ -15,21 +15,6 @@ abbrev μ-loop : tie.MeasureT-loop
 loop-holds : tie.Need-loop-holds Inv-loop μ-loop
 loop-holds c = count-start _ _ _ (omega arith)
 
-mul-ones-of : tie.Need-mul-ones-of Inv-loop μ-loop
-mul-ones-of c = omega arith
-
-shared-slice-read-ones-of : tie.Need-shared-slice-read-ones-of Inv-loop μ-loop
-shared-slice-read-ones-of c = omega arith
-
-ones-of-requires : tie.Need-ones-of-requires Inv-loop μ-loop
-ones-of-requires c κs = search needs
-
-add-i : tie.Need-add-i Inv-loop μ-loop
-add-i c = omega arith
-
-loop-less : tie.Need-loop-less Inv-loop μ-loop
-loop-less c = omega arith
-
 loop-again : tie.Need-loop-again Inv-loop μ-loop
 loop-again c =
     let k = c .before .before .before in
@@ -48,11 +33,11 @@ count-ones-spec =
     Inv-loop
     μ-loop
     loop-holds
-    mul-ones-of
-    shared-slice-read-ones-of
-    ones-of-requires
+    (λ c. omega arith)
+    (λ c. omega arith)
+    (λ c κs. search needs)
     add-total
-    add-i
-    loop-less
+    (λ c. omega arith)
+    (λ c. omega arith)
     loop-again
     returns)

@@ -10,13 +10,10 @@ toggle-all-requires c κs =
     let s = c .before .before .before in
     (s .pre .0, λ i h. omega (arith, s .pre .1, s .pre .2 i h))
 
-same-length : tie.Need-same-length
-same-length c = search needs
-
 returns : tie.Need-returns
 returns c =
     let s = c .before .before .before .before .before .before in
     folded _ _ _ _ _ (s .pre .1) (s .pre .2) (c .before .before .toggle-all .ensures)
 
 pub fold-spec : {M : Type 1} → statement M
-fold-spec = tie.close (tie.spec toggle-all-requires same-length returns)
+fold-spec = tie.close (tie.spec toggle-all-requires (λ c. search needs) returns)

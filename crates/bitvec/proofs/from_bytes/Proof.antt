@@ -18,27 +18,6 @@ abbrev μ-loop : tie.MeasureT-loop
 loop-holds : tie.Need-loop-holds Inv-loop μ-loop
 loop-holds c = fill-start _ _ _ 0 (omega arith) refl refl
 
-mul-read-u64 : tie.Need-mul-read-u64 Inv-loop μ-loop
-mul-read-u64 c = omega arith
-
-add-read-u64 : tie.Need-add-read-u64 Inv-loop μ-loop
-add-read-u64 c = omega arith
-
-read-u64-requires : tie.Need-read-u64-requires Inv-loop μ-loop
-read-u64-requires c κs = omega arith
-
-mul-blocks : tie.Need-mul-blocks Inv-loop μ-loop
-mul-blocks c = omega arith
-
-slice-write-blocks : tie.Need-slice-write-blocks Inv-loop μ-loop
-slice-write-blocks c = omega arith
-
-add-i : tie.Need-add-i Inv-loop μ-loop
-add-i c = omega arith
-
-loop-less : tie.Need-loop-less Inv-loop μ-loop
-loop-less c = omega arith
-
 loop-again : tie.Need-loop-again Inv-loop μ-loop
 loop-again c =
     let k = c .before .before in
@@ -46,9 +25,6 @@ loop-again c =
     fill-turn (c .read-u64 .result) (s .pre .0) (c .before .loop-test .taken)
     (numbers-next 8 (k .loop .i) (s .args .at) (s .args .from .now) (s .args .at + 8 * k .loop .i) (c .read-u64 .result) (omega arith) (c .read-u64 .ensures))
     (k .loop .inv)
-
-same-length : tie.Need-same-length Inv-loop μ-loop
-same-length c = omega arith
 
 returns : tie.Need-returns Inv-loop μ-loop
 returns c = fill-end (c .loop-test .left) (c .before .loop .inv)
@@ -60,13 +36,13 @@ from-bytes-spec =
     Inv-loop
     μ-loop
     loop-holds
-    mul-read-u64
-    add-read-u64
-    read-u64-requires
-    mul-blocks
-    slice-write-blocks
-    add-i
-    loop-less
+    (λ c. omega arith)
+    (λ c. omega arith)
+    (λ c κs. omega arith)
+    (λ c. omega arith)
+    (λ c. omega arith)
+    (λ c. omega arith)
+    (λ c. omega arith)
     loop-again
-    same-length
+    (λ c. omega arith)
     returns)

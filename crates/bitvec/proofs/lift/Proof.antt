@@ -19,41 +19,17 @@ index c = c .before .before .loop .inv .isRead (omega arith)
 loop-holds : tie.Need-loop-holds Inv-loop μ-loop
 loop-holds c = start _ _ _ _
 
-occupied-requires : tie.Need-occupied-requires Inv-loop μ-loop
-occupied-requires c κs = omega arith
-
-same-length : tie.Need-same-length Inv-loop μ-loop
-same-length c = search needs
-
-same-length-2 : tie.Need-same-length-2 Inv-loop μ-loop
-same-length-2 c = search needs
-
 returns : tie.Need-returns Inv-loop μ-loop
 returns c =
     let o = c .before .occupied .ensures in
     let k = c .before .before .before .before .before in
     emptied (k .before .before .before .pre) (k .loop .inv) (c .before .before .before .if1 .taken) _ (o .0) (o .1) (omega arith) (omega arith)
 
-sub-i : tie.Need-sub-i Inv-loop μ-loop
-sub-i c = omega arith
-
-mul-block : tie.Need-mul-block Inv-loop μ-loop
-mul-block c = omega arith
-
-slice-read-block : tie.Need-slice-read-block Inv-loop μ-loop
-slice-read-block c = omega arith
-
-loop-less : tie.Need-loop-less Inv-loop μ-loop
-loop-less c = omega arith
-
 loop-again : tie.Need-loop-again Inv-loop μ-loop
 loop-again c =
     let o = c .before .before .occupied .ensures in
     let k = c .before .before .before .before .before .before in
     down (k .before .before .before .pre) (k .loop .inv) (c .before .before .before .before .if1 .taken) _ (o .0) (o .1) (omega arith)
-
-from-block-msb-requires : tie.Need-from-block-msb-requires Inv-loop μ-loop
-from-block-msb-requires c κs = omega arith
 
 into-block-requires : tie.Need-into-block-requires Inv-loop μ-loop
 into-block-requires c κs = c .from-block-msb .ensures .small
@@ -70,29 +46,11 @@ into-bucket-requires c κs = omega (arith, index (c .before .before), c .before 
 cast-top : tie.Need-cast-top Inv-loop μ-loop
 cast-top c = omega (arith, index (c .before .before .before), c .before .before .from-block-msb .ensures .small)
 
-mul-top : tie.Need-mul-top Inv-loop μ-loop
-mul-top c = omega arith
-
-slice-write-top : tie.Need-slice-write-top Inv-loop μ-loop
-slice-write-top c = omega arith
-
-add-count : tie.Need-add-count Inv-loop μ-loop
-add-count c = omega arith
-
-loop-less-2 : tie.Need-loop-less-2 Inv-loop μ-loop
-loop-less-2 c = omega arith
-
 loop-again-2 : tie.Need-loop-again-2 Inv-loop μ-loop
 loop-again-2 c =
     let b = c .before .before in
     let k = b .before .before .before in
     turn (k .before .before .before .pre) (k .loop .inv) _ (omega arith) (index (b .before)) (b .from-block-msb .ensures) _ _ (c .into-bucket .ensures) (c .before .into-block .ensures)
-
-same-length-3 : tie.Need-same-length-3 Inv-loop μ-loop
-same-length-3 c = search needs
-
-same-length-4 : tie.Need-same-length-4 Inv-loop μ-loop
-same-length-4 c = search needs
 
 returns-2 : tie.Need-returns-2 Inv-loop μ-loop
 returns-2 c = full (c .before .before .before .before .pre) (c .before .loop .inv) (c .loop-test .left)
@@ -104,26 +62,26 @@ lift-spec =
     Inv-loop
     μ-loop
     loop-holds
-    occupied-requires
-    same-length
-    same-length-2
+    (λ c κs. omega arith)
+    (λ c. search needs)
+    (λ c. search needs)
     returns
-    sub-i
-    mul-block
-    slice-read-block
-    loop-less
+    (λ c. omega arith)
+    (λ c. omega arith)
+    (λ c. omega arith)
+    (λ c. omega arith)
     loop-again
-    from-block-msb-requires
+    (λ c κs. omega arith)
     into-block-requires
     mul-blocks
     slice-write-blocks
     into-bucket-requires
     cast-top
-    mul-top
-    slice-write-top
-    add-count
-    loop-less-2
+    (λ c. omega arith)
+    (λ c. omega arith)
+    (λ c. omega arith)
+    (λ c. omega arith)
     loop-again-2
-    same-length-3
-    same-length-4
+    (λ c. search needs)
+    (λ c. search needs)
     returns-2)

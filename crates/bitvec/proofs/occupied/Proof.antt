@@ -16,20 +16,8 @@ abbrev μ-loop : tie.MeasureT-loop
 loop-holds : tie.Need-loop-holds Inv-loop μ-loop
 loop-holds c = (omega arith, λ j x y. absurd (omega arith))
 
-sub-last : tie.Need-sub-last Inv-loop μ-loop
-sub-last c = omega arith
-
-mul-if1 : tie.Need-mul-if1 Inv-loop μ-loop
-mul-if1 c = omega arith
-
-shared-slice-read-if1 : tie.Need-shared-slice-read-if1 Inv-loop μ-loop
-shared-slice-read-if1 c = omega arith
-
 returns : tie.Need-returns Inv-loop μ-loop
 returns c = c .before .before .before .loop .inv
-
-loop-less : tie.Need-loop-less Inv-loop μ-loop
-loop-less c = omega arith
 
 loop-again : tie.Need-loop-again Inv-loop μ-loop
 loop-again c =
@@ -46,10 +34,10 @@ occupied-spec =
     Inv-loop
     μ-loop
     loop-holds
-    sub-last
-    mul-if1
-    shared-slice-read-if1
+    (λ c. omega arith)
+    (λ c. omega arith)
+    (λ c. omega arith)
     returns
-    loop-less
+    (λ c. omega arith)
     loop-again
     returns-2)

@@ -6,30 +6,6 @@ use borrow.Author.Needs.{needs}
 use Rattle.bitvec.proofs.resize.Statement.{statement}
 use Rattle.bitvec.proofs.resize.Tie as tie
 
-into-index-requires : tie.Need-into-index-requires
-into-index-requires c κs = search needs
-
-into-bit-requires : tie.Need-into-bit-requires
-into-bit-requires c κs = search needs
-
-mul-blocks : tie.Need-mul-blocks
-mul-blocks c = search needs
-
-slice-read-blocks : tie.Need-slice-read-blocks
-slice-read-blocks c = search needs
-
-into-mask-requires : tie.Need-into-mask-requires
-into-mask-requires c κs = search needs
-
-mul-blocks-2 : tie.Need-mul-blocks-2
-mul-blocks-2 c = search needs
-
-slice-write-blocks : tie.Need-slice-write-blocks
-slice-write-blocks c = search needs
-
-add-whole : tie.Need-add-whole
-add-whole c = search needs
-
 -- the blocks below `whole` are cut
 is-cut : (c : tie.Joined1) → Trimming (c .before .before .before .before .args .boundary) (c .before .before .before .before .args .blocks .now) (c .if1 .blocks) (c .if1 .whole)
 is-cut c =
@@ -60,14 +36,14 @@ pub resize-spec : {M : Type 1} → statement M
 resize-spec =
     tie.close
     (tie.spec
-    into-index-requires
-    into-bit-requires
-    mul-blocks
-    slice-read-blocks
-    into-mask-requires
-    mul-blocks-2
-    slice-write-blocks
-    add-whole
+    (λ c κs. search needs)
+    (λ c κs. search needs)
+    (λ c. search needs)
+    (λ c. search needs)
+    (λ c κs. search needs)
+    (λ c. search needs)
+    (λ c. search needs)
+    (λ c. search needs)
     zero-blocks-requires
     same-length
     returns)

@@ -15,35 +15,17 @@ abbrev μ-loop : tie.MeasureT-loop
 loop-holds : tie.Need-loop-holds Inv-loop μ-loop
 loop-holds c = flip-start _ _ _
 
-mul-into-usize : tie.Need-mul-into-usize Inv-loop μ-loop
-mul-into-usize c = omega arith
-
-shared-slice-read-into-usize : tie.Need-shared-slice-read-into-usize Inv-loop μ-loop
-shared-slice-read-into-usize c = omega arith
-
-into-usize-requires : tie.Need-into-usize-requires Inv-loop μ-loop
-into-usize-requires c κs = search needs
-
 toggle-requires : tie.Need-toggle-requires Inv-loop μ-loop
 toggle-requires c κs =
     let k = c .before .before .before .before in
     let s = k .before .before .before in
     flip-fits (k .loop .inv) (c .into-usize .result) (omega arith) (s .pre .0) (c .into-usize .ensures) (s .pre .1)
 
-add-i : tie.Need-add-i Inv-loop μ-loop
-add-i c = omega arith
-
-loop-less : tie.Need-loop-less Inv-loop μ-loop
-loop-less c = omega arith
-
 loop-again : tie.Need-loop-again Inv-loop μ-loop
 loop-again c =
     let u = c .before .before .before in
     let k = u .before .before .before .before in
     flip-turn (k .loop .inv) (u .into-usize .result) (omega arith) (k .before .before .before .pre .0) (u .into-usize .ensures) _ (c .before .before .toggle .ensures)
-
-same-length : tie.Need-same-length Inv-loop μ-loop
-same-length c = omega arith
 
 returns : tie.Need-returns Inv-loop μ-loop
 returns c = flip-end (c .before .loop .inv) (c .loop-test .left)
@@ -55,12 +37,12 @@ toggle-all-spec =
     Inv-loop
     μ-loop
     loop-holds
-    mul-into-usize
-    shared-slice-read-into-usize
-    into-usize-requires
+    (λ c. omega arith)
+    (λ c. omega arith)
+    (λ c κs. search needs)
     toggle-requires
-    add-i
-    loop-less
+    (λ c. omega arith)
+    (λ c. omega arith)
     loop-again
-    same-length
+    (λ c. omega arith)
     returns)

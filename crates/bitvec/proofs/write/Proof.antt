@@ -12,19 +12,10 @@ returns c =
     let s = c .before .before .before in
     part-none (s .args .boundary) (s .args .blocks .now) (s .args .to .now) (s .args .at) (c .if1 .taken)
 
-num-blocks-requires : tie.Need-num-blocks-requires
-num-blocks-requires c κs = search needs
-
-unoccupied-bits-requires : tie.Need-unoccupied-bits-requires
-unoccupied-bits-requires c κs = search needs
-
 slice-write-to : tie.Need-slice-write-to
 slice-write-to c =
     let s = c .before .before .before .before .before in
     omega (arith, part-length (s .args .boundary) (s .args .blocks .now) (c .before .before .if1 .left), s .pre .1 .1)
-
-add-write-blocks : tie.Need-add-write-blocks
-add-write-blocks c = search needs
 
 write-blocks-requires : tie.Need-write-blocks-requires
 write-blocks-requires c κs =
@@ -32,15 +23,6 @@ write-blocks-requires c κs =
       omega arith,
       simp length-set (omega (arith, part-length (s .args .boundary) (s .args .blocks .now) (c .before .before .before .if1 .left), s .pre .1 .1)),
     )
-
-add-result : tie.Need-add-result
-add-result c = search needs
-
-mul-result : tie.Need-mul-result
-mul-result c = search needs
-
-add-result-2 : tie.Need-add-result-2
-add-result-2 c = search needs
 
 same-length : tie.Need-same-length
 same-length c = c .before .before .write-blocks .kept .0 ∙ simp length-set
@@ -60,13 +42,13 @@ write-spec =
     tie.close
     (tie.spec
     returns
-    num-blocks-requires
-    unoccupied-bits-requires
+    (λ c κs. search needs)
+    (λ c κs. search needs)
     slice-write-to
-    add-write-blocks
+    (λ c. search needs)
     write-blocks-requires
-    add-result
-    mul-result
-    add-result-2
+    (λ c. search needs)
+    (λ c. search needs)
+    (λ c. search needs)
     same-length
     returns-2)

@@ -14,35 +14,11 @@ abbrev μ-loop : tie.MeasureT-loop
 loop-holds : tie.Need-loop-holds Inv-loop μ-loop
 loop-holds c = written-start _ _ _ _ _
 
-mul-write-u64 : tie.Need-mul-write-u64 Inv-loop μ-loop
-mul-write-u64 c = omega arith
-
-add-write-u64 : tie.Need-add-write-u64 Inv-loop μ-loop
-add-write-u64 c = omega arith
-
-mul-write-u64-2 : tie.Need-mul-write-u64-2 Inv-loop μ-loop
-mul-write-u64-2 c = omega arith
-
-shared-slice-read-write-u64 : tie.Need-shared-slice-read-write-u64 Inv-loop μ-loop
-shared-slice-read-write-u64 c = omega arith
-
-write-u64-requires : tie.Need-write-u64-requires Inv-loop μ-loop
-write-u64-requires c κs = omega arith
-
-add-i : tie.Need-add-i Inv-loop μ-loop
-add-i c = omega arith
-
-loop-less : tie.Need-loop-less Inv-loop μ-loop
-loop-less c = omega arith
-
 loop-again : tie.Need-loop-again Inv-loop μ-loop
 loop-again c =
     let k = c .before .before .before .before .before .before in
     let s = k .before .before .before in
     written-turn _ (s .args .at + 8 * k .loop .i) (s .pre .0) (omega arith) (omega arith) (c .before .before .write-u64 .ensures) (k .loop .inv)
-
-same-length : tie.Need-same-length Inv-loop μ-loop
-same-length c = omega arith
 
 returns : tie.Need-returns Inv-loop μ-loop
 returns c = written-end (c .loop-test .left) (c .before .loop .inv)
@@ -54,13 +30,13 @@ write-blocks-spec =
     Inv-loop
     μ-loop
     loop-holds
-    mul-write-u64
-    add-write-u64
-    mul-write-u64-2
-    shared-slice-read-write-u64
-    write-u64-requires
-    add-i
-    loop-less
+    (λ c. omega arith)
+    (λ c. omega arith)
+    (λ c. omega arith)
+    (λ c. omega arith)
+    (λ c κs. omega arith)
+    (λ c. omega arith)
+    (λ c. omega arith)
     loop-again
-    same-length
+    (λ c. omega arith)
     returns)

@@ -4,11 +4,8 @@ use Rattle.sets.proofs.Words.{shl-one}
 use Rattle.buckets.proofs.into_block.Statement.{statement}
 use Rattle.buckets.proofs.into_block.Tie as tie
 
-shl-result : tie.Need-shl-result
-shl-result c = search needs
-
 returns : tie.Need-returns
 returns c = shl-one (c .args .bit) (c .pre)
 
 pub into-block-spec : {M : Type 1} → statement M
-into-block-spec = tie.close (tie.spec shl-result returns)
+into-block-spec = tie.close (tie.spec (λ c. search needs) returns)

@@ -6,12 +6,6 @@ use borrow.Author.Needs.{needs}
 use Rattle.builder.proofs.new.Statement.{statement}
 use Rattle.builder.proofs.new.Tie as tie
 
-areas-requires : tie.Need-areas-requires
-areas-requires c κs = search needs
-
-enum-known-s : tie.Need-enum-known-s
-enum-known-s c = search needs
-
 returns : tie.Need-returns
 returns c =
     let k = c .before .before .before in
@@ -36,15 +30,6 @@ zero-blocks-requires c κs =
     let a = k .before .before .before .before .before .args in
     (omega arith, new-asks (a .config) (a .split) (a .pending .now) (a .bits .now) (k .s .given .0 .0) (sym (k .before .before .areas .ensures) ∙ k .s .given .1) .1)
 
-enum-known-r : tie.Need-enum-known-r
-enum-known-r c = search needs
-
-same-length : tie.Need-same-length
-same-length c = search needs
-
-same-length-2 : tie.Need-same-length-2
-same-length-2 c = search needs
-
 returns-2 : tie.Need-returns-2
 returns-2 c =
     let k = c .before .before .before .before .before .before .before .before .before .before .before .before in
@@ -60,14 +45,14 @@ pub new-spec : {M : Type 1} → statement M
 new-spec =
     tie.close
     (tie.spec
-    areas-requires
-    enum-known-s
+    (λ c κs. search needs)
+    (λ c. search needs)
     returns
     mul-zero-cells
     zero-cells-requires
     zero-blocks-requires
-    enum-known-r
-    same-length
-    same-length-2
+    (λ c. search needs)
+    (λ c. search needs)
+    (λ c. search needs)
     returns-2
     returns-3)

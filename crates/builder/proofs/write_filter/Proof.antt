@@ -5,9 +5,6 @@ use borrow.Author.Needs.{needs}
 use Rattle.builder.proofs.write_filter.Statement.{statement}
 use Rattle.builder.proofs.write_filter.Tie as tie
 
-copy-requires : tie.Need-copy-requires
-copy-requires c κs = search needs
-
 toggle-all-requires : tie.Need-toggle-all-requires
 toggle-all-requires c κs =
     let f = c .before .before .before in
@@ -16,12 +13,6 @@ toggle-all-requires c κs =
 
 split-requires : tie.Need-split-requires
 split-requires c κs = (search needs, (omega arith, λ p a l. absurd (omega arith)))
-
-same-length : tie.Need-same-length
-same-length c = search needs
-
-same-length-2 : tie.Need-same-length-2
-same-length-2 c = search needs
 
 returns : tie.Need-returns
 returns c =
@@ -34,4 +25,4 @@ returns c =
 pub write-filter-spec : {M : Type 1} → statement M
 write-filter-spec =
     tie.close
-    (tie.spec copy-requires toggle-all-requires split-requires same-length same-length-2 returns)
+    (tie.spec (λ c κs. search needs) toggle-all-requires split-requires (λ c. search needs) (λ c. search needs) returns)

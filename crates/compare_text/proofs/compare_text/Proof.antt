@@ -10,23 +10,11 @@ use Rattle.compare_text.proofs.Answering.{copied, too-short}
 use Rattle.compare_text.proofs.compare_text.Statement.{statement}
 use Rattle.compare_text.proofs.compare_text.Tie as tie
 
-slice-aggregate-put-judged : tie.Need-slice-aggregate-put-judged
-slice-aggregate-put-judged c = search needs
-
-judged-input-requires : tie.Need-judged-input-requires
-judged-input-requires c κs = search needs
-
-put-judged-requires : tie.Need-put-judged-requires
-put-judged-requires c κs = search needs
-
 returns : tie.Need-returns
 returns c =
     let p = c .before .before in
     let a = p .before .before .before .before .before .args in
     too-short (now (a .input)) (now (a .out)) (p .before .judged-input .ensures) (p .put-judged .ensures) (omega arith) (c .if1 .taken)
-
-array-share-prefix-text : tie.Need-array-share-prefix-text
-array-share-prefix-text c = search needs
 
 -- the text is no longer than the array
 part-in : (c : tie.After-text3) → c .before .before .before .before .put-judged .result ≤ length (c .before .before .before .before .put-judged .last .0)
@@ -38,9 +26,6 @@ slice-aggregate-put c = sym (length-take-le _ _ (part-in c))
 put-requires : tie.Need-put-requires
 put-requires c κs = omega (arith, slice-aggregate-put c)
 
-same-length : tie.Need-same-length
-same-length c = search needs
-
 returns-2 : tie.Need-returns-2
 returns-2 c =
     let p = c .before .before .before .before .before .before .before in
@@ -51,12 +36,12 @@ pub compare-text-spec : {M : Type 1} → statement M
 compare-text-spec =
     tie.close
     (tie.spec
-    slice-aggregate-put-judged
-    judged-input-requires
-    put-judged-requires
+    (λ c. search needs)
+    (λ c κs. search needs)
+    (λ c κs. search needs)
     returns
-    array-share-prefix-text
+    (λ c. search needs)
     slice-aggregate-put
     put-requires
-    same-length
+    (λ c. search needs)
     returns-2)

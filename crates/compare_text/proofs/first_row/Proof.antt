@@ -67,15 +67,6 @@ module _ (k : Given) where
       let w = k .before .before .before .before .before .row-line in
       row-read (n (k .before .before .before .before .before .before .before .before .before)) (take (end (k .before .before .before .before .before .before .before .before .before)) (s (k .before .before .before .before .before .before .before .before .before))) _ _ (w .result) top bits (w .ensures) f (k .before .f .given .1) (areas (k .before .before .before .before .before .before .before .before .before))
 
-find-requires : tie.Need-find-requires
-find-requires c κs = search needs
-
-enum-known-end : tie.Need-enum-known-end
-enum-known-end c = search needs
-
-enum-told : tie.Need-enum-told
-enum-told c = search needs
-
 returns : tie.Need-returns
 returns c =
     let a = c .before .before .before .before .args in
@@ -90,25 +81,10 @@ slice-aggregate-row-line c =
     let k = c .before in
     sym (line-length (s k) (end k) (ended k))
 
-slice-aggregate-row-line-2 : tie.Need-slice-aggregate-row-line-2
-slice-aggregate-row-line-2 c = search needs
-
-slice-aggregate-row-line-3 : tie.Need-slice-aggregate-row-line-3
-slice-aggregate-row-line-3 c = search needs
-
 row-line-requires : tie.Need-row-line-requires
 row-line-requires c κs =
     let k = c .before .before .before in
     (line-fits (s k) (end k) (ended k) (few k), areas k)
-
-enum-known-f : tie.Need-enum-known-f
-enum-known-f c = search needs
-
-slice-aggregate-second-row : tie.Need-slice-aggregate-second-row
-slice-aggregate-second-row c = search needs
-
-slice-aggregate-second-row-2 : tie.Need-slice-aggregate-second-row-2
-slice-aggregate-second-row-2 c = search needs
 
 sub-second-row : tie.Need-sub-second-row
 sub-second-row c = omega (arith, ended (c .before .before .before .before .before .before .before .before .before .before .before) .inside)
@@ -116,17 +92,11 @@ sub-second-row c = omega (arith, ended (c .before .before .before .before .befor
 part-second-row-start : tie.Need-part-second-row-start
 part-second-row-start c = omega (arith, ended (c .before .before .before .before .before .before .before .before .before .before .before) .inside)
 
-part-second-row-end : tie.Need-part-second-row-end
-part-second-row-end c = search needs
-
 second-row-requires : tie.Need-second-row-requires
 second-row-requires c κs =
     let k = c .before .before .before in
     let j = k .before .before .before .before .before .before .before .before .before in
     first-asks (n j) (m j) (s j) (end j) (ended j) (f k) (top k) (bits k) (read k) (few j) (areas j) (k .before .before .before .before .before .before .before .before .before .before .before .before .before .before .pre .2)
-
-enum-known-r : tie.Need-enum-known-r
-enum-known-r c = search needs
 
 returns-2 : tie.Need-returns-2
 returns-2 c =
@@ -146,22 +116,22 @@ pub first-row-spec : {M : Type 1} → statement M
 first-row-spec =
     tie.close
     (tie.spec
-    find-requires
-    enum-known-end
-    enum-told
+    (λ c κs. search needs)
+    (λ c. search needs)
+    (λ c. search needs)
     returns
     add-next
     slice-aggregate-row-line
-    slice-aggregate-row-line-2
-    slice-aggregate-row-line-3
+    (λ c. search needs)
+    (λ c. search needs)
     row-line-requires
-    enum-known-f
-    slice-aggregate-second-row
-    slice-aggregate-second-row-2
+    (λ c. search needs)
+    (λ c. search needs)
+    (λ c. search needs)
     sub-second-row
     part-second-row-start
-    part-second-row-end
+    (λ c. search needs)
     second-row-requires
-    enum-known-r
+    (λ c. search needs)
     returns-2
     returns-3)

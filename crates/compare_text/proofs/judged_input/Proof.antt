@@ -52,15 +52,6 @@ module _ (k : Given) where
 returns : tie.Need-returns
 returns c = input-long (c .before .before .args .input .now) (c .if1 .taken)
 
-find-requires : tie.Need-find-requires
-find-requires c κs = search needs
-
-enum-known-end : tie.Need-enum-known-end
-enum-known-end c = search needs
-
-enum-told : tie.Need-enum-told
-enum-told c = search needs
-
 returns-2 : tie.Need-returns-2
 returns-2 c =
     let s = c .before .before .before .before .before .args .input .now in
@@ -75,29 +66,17 @@ slice-aggregate-config-line c =
     let k = c .before in
     sym (line-length (s k) (end k) (ended k))
 
-config-line-requires : tie.Need-config-line-requires
-config-line-requires c κs = search needs
-
-enum-known-config : tie.Need-enum-known-config
-enum-known-config c = search needs
-
 sub-masked-rows : tie.Need-sub-masked-rows
 sub-masked-rows c = omega (arith, ended (c .before .before .before .before .before) .inside)
 
 part-masked-rows-start : tie.Need-part-masked-rows-start
 part-masked-rows-start c = omega (arith, ended (c .before .before .before .before .before) .inside)
 
-part-masked-rows-end : tie.Need-part-masked-rows-end
-part-masked-rows-end c = search needs
-
 masked-rows-requires : tie.Need-masked-rows-requires
 masked-rows-requires c κs =
     let k = c .before in
     let j = k .before .before .before .before .before in
     (rest-fits (s j) (end j) (ended j) (few j), config-areas (take (end j) (s j)) (n k) (told k))
-
-enum-known-r : tie.Need-enum-known-r
-enum-known-r c = search needs
 
 returns-3 : tie.Need-returns-3
 returns-3 c =
@@ -116,18 +95,18 @@ judged-input-spec =
     tie.close
     (tie.spec
     returns
-    find-requires
-    enum-known-end
-    enum-told
+    (λ c κs. search needs)
+    (λ c. search needs)
+    (λ c. search needs)
     returns-2
     add-next
     slice-aggregate-config-line
-    config-line-requires
-    enum-known-config
+    (λ c κs. search needs)
+    (λ c. search needs)
     sub-masked-rows
     part-masked-rows-start
-    part-masked-rows-end
+    (λ c. search needs)
     masked-rows-requires
-    enum-known-r
+    (λ c. search needs)
     returns-3
     returns-4)

@@ -52,15 +52,6 @@ module _ (k : Given) where
   told : maskLine (take (end (k .before .before .before .before .before)) (s (k .before .before .before .before .before))) ≡ is m
   told = sym (k .before .before .before .mask-line .ensures) ∙ ap maskTold (k .before .m .given .1)
 
-find-requires : tie.Need-find-requires
-find-requires c κs = search needs
-
-enum-known-end : tie.Need-enum-known-end
-enum-known-end c = search needs
-
-enum-told : tie.Need-enum-told
-enum-told c = search needs
-
 returns : tie.Need-returns
 returns c =
     let a = c .before .before .before .before .args in
@@ -75,29 +66,17 @@ slice-aggregate-mask-line c =
     let k = c .before in
     sym (line-length (s k) (end k) (ended k))
 
-mask-line-requires : tie.Need-mask-line-requires
-mask-line-requires c κs = search needs
-
-enum-known-m : tie.Need-enum-known-m
-enum-known-m c = search needs
-
 sub-first-row : tie.Need-sub-first-row
 sub-first-row c = omega (arith, ended (c .before .before .before .before .before) .inside)
 
 part-first-row-start : tie.Need-part-first-row-start
 part-first-row-start c = omega (arith, ended (c .before .before .before .before .before) .inside)
 
-part-first-row-end : tie.Need-part-first-row-end
-part-first-row-end c = search needs
-
 first-row-requires : tie.Need-first-row-requires
 first-row-requires c κs =
     let k = c .before in
     let j = k .before .before .before .before .before in
     (rest-fits (s j) (end j) (ended j) (few j), j .before .before .before .before .before .pre .1, mask-fits (take (end j) (s j)) (m k) (told k))
-
-enum-known-r : tie.Need-enum-known-r
-enum-known-r c = search needs
 
 returns-2 : tie.Need-returns-2
 returns-2 c =
@@ -115,18 +94,18 @@ pub masked-rows-spec : {M : Type 1} → statement M
 masked-rows-spec =
     tie.close
     (tie.spec
-    find-requires
-    enum-known-end
-    enum-told
+    (λ c κs. search needs)
+    (λ c. search needs)
+    (λ c. search needs)
     returns
     add-next
     slice-aggregate-mask-line
-    mask-line-requires
-    enum-known-m
+    (λ c κs. search needs)
+    (λ c. search needs)
     sub-first-row
     part-first-row-start
-    part-first-row-end
+    (λ c. search needs)
     first-row-requires
-    enum-known-r
+    (λ c. search needs)
     returns-2
     returns-3)

@@ -5,39 +5,6 @@ use Rattle.encode.proofs.Chains.{puts-then}
 use Rattle.compare_text.proofs.put_outer.Statement.{statement}
 use Rattle.compare_text.proofs.put_outer.Tie as tie
 
-put-order-requires : tie.Need-put-order-requires
-put-order-requires c κs = search needs
-
-slice-aggregate-put : tie.Need-slice-aggregate-put
-slice-aggregate-put c = search needs
-
-put-requires : tie.Need-put-requires
-put-requires c κs = omega arith
-
-put-hex-requires : tie.Need-put-hex-requires
-put-hex-requires c κs = omega arith
-
-put-hex-requires-2 : tie.Need-put-hex-requires-2
-put-hex-requires-2 c κs = omega arith
-
-slice-aggregate-put-2 : tie.Need-slice-aggregate-put-2
-slice-aggregate-put-2 c = search needs
-
-put-requires-2 : tie.Need-put-requires-2
-put-requires-2 c κs = omega arith
-
-slice-aggregate-put-line : tie.Need-slice-aggregate-put-line
-slice-aggregate-put-line c = search needs
-
-slice-aggregate-put-line-2 : tie.Need-slice-aggregate-put-line-2
-slice-aggregate-put-line-2 c = search needs
-
-put-line-requires : tie.Need-put-line-requires
-put-line-requires c κs = omega arith
-
-same-length : tie.Need-same-length
-same-length c = search needs
-
 returns : tie.Need-returns
 returns c =
     let l = c .before .before in
@@ -54,15 +21,15 @@ pub put-outer-spec : {M : Type 1} → statement M
 put-outer-spec =
     tie.close
     (tie.spec
-    put-order-requires
-    slice-aggregate-put
-    put-requires
-    put-hex-requires
-    put-hex-requires-2
-    slice-aggregate-put-2
-    put-requires-2
-    slice-aggregate-put-line
-    slice-aggregate-put-line-2
-    put-line-requires
-    same-length
+    (λ c κs. search needs)
+    (λ c. search needs)
+    (λ c κs. omega arith)
+    (λ c κs. omega arith)
+    (λ c κs. omega arith)
+    (λ c. search needs)
+    (λ c κs. omega arith)
+    (λ c. search needs)
+    (λ c. search needs)
+    (λ c κs. omega arith)
+    (λ c. search needs)
     returns)

@@ -72,15 +72,6 @@ module _ (k : Given) where
       let w = k .before .before .before .before .before .row-line in
       row-read (n (k .before .before .before .before .before .before .before .before .before)) (take (end (k .before .before .before .before .before .before .before .before .before)) (s (k .before .before .before .before .before .before .before .before .before))) _ _ (w .result) top2 bits2 (w .ensures) g (k .before .g .given .1) (areas (k .before .before .before .before .before .before .before .before .before))
 
-find-requires : tie.Need-find-requires
-find-requires c κs = search needs
-
-enum-known-end : tie.Need-enum-known-end
-enum-known-end c = search needs
-
-enum-told : tie.Need-enum-told
-enum-told c = search needs
-
 returns : tie.Need-returns
 returns c =
     let a = c .before .before .before .before .before .before .args in
@@ -93,19 +84,10 @@ slice-aggregate-row-line c =
     let k = c .before in
     sym (line-length (s k) (end k) (ended k))
 
-slice-aggregate-row-line-2 : tie.Need-slice-aggregate-row-line-2
-slice-aggregate-row-line-2 c = search needs
-
-slice-aggregate-row-line-3 : tie.Need-slice-aggregate-row-line-3
-slice-aggregate-row-line-3 c = search needs
-
 row-line-requires : tie.Need-row-line-requires
 row-line-requires c κs =
     let k = c .before .before .before in
     (line-fits (s k) (end k) (ended k) (few k), areas k)
-
-enum-known-g : tie.Need-enum-known-g
-enum-known-g c = search needs
 
 add-if1 : tie.Need-add-if1
 add-if1 c =
@@ -118,21 +100,12 @@ returns-2 c =
     let j = k .before .before .before .before .before .before .before .before .before in
     second-followed (n j) (m j) (S j) (s j) (end j) (ended j) (g k) (top2 k) (bits2 k) (read k) (c .if1 .taken)
 
-slice-aggregate-figures-of : tie.Need-slice-aggregate-figures-of
-slice-aggregate-figures-of c = search needs
-
-slice-aggregate-figures-of-2 : tie.Need-slice-aggregate-figures-of-2
-slice-aggregate-figures-of-2 c = search needs
-
 figures-of-requires : tie.Need-figures-of-requires
 figures-of-requires c κs =
     let k = c .before .before .before in
     let q = k .before .before .before .before .before .before .before .before .before .before .before .before .before .before .before .before in
     let a = q .args in
     figures-asks (a .f) (a .top .now) (a .blocks .now) (take (end (k .before .before .before .before .before .before .before .before .before)) (s (k .before .before .before .before .before .before .before .before .before))) (g k) (top2 k) (bits2 k) (m (k .before .before .before .before .before .before .before .before .before)) (q .pre .1 .0) (read k) (q .pre .1 .1)
-
-enum-known-r : tie.Need-enum-known-r
-enum-known-r c = search needs
 
 returns-3 : tie.Need-returns-3
 returns-3 c =
@@ -152,20 +125,20 @@ pub second-row-spec : {M : Type 1} → statement M
 second-row-spec =
     tie.close
     (tie.spec
-    find-requires
-    enum-known-end
-    enum-told
+    (λ c κs. search needs)
+    (λ c. search needs)
+    (λ c. search needs)
     returns
     slice-aggregate-row-line
-    slice-aggregate-row-line-2
-    slice-aggregate-row-line-3
+    (λ c. search needs)
+    (λ c. search needs)
     row-line-requires
-    enum-known-g
+    (λ c. search needs)
     add-if1
     returns-2
-    slice-aggregate-figures-of
-    slice-aggregate-figures-of-2
+    (λ c. search needs)
+    (λ c. search needs)
     figures-of-requires
-    enum-known-r
+    (λ c. search needs)
     returns-3
     returns-4)

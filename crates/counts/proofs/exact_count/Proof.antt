@@ -17,12 +17,6 @@ told c =
     let a = c .before .before .before .before .before .args in
     one (a .f) (a .top .now) (a .blocks .now) (c .enum-told .given .0 .0) (c .before .before .filter-lent .ensures) (c .enum-told .given .1)
 
-filter-lent-requires : tie.Need-filter-lent-requires
-filter-lent-requires c κs = search needs
-
-enum-told : tie.Need-enum-told
-enum-told c = search needs
-
 num-blocks-requires : tie.Need-num-blocks-requires
 num-blocks-requires c κs = omega (arith, told c .fits)
 
@@ -30,9 +24,6 @@ exact-count-requires : tie.Need-exact-count-requires
 exact-count-requires c κs =
     let F = told (c .before) .fits in
     (omega arith, omega (arith, c .num-blocks .ensures), omega (arith, c .num-blocks .ensures))
-
-enum-known-r : tie.Need-enum-known-r
-enum-known-r c = search needs
 
 returns : tie.Need-returns
 returns c =
@@ -50,10 +41,10 @@ pub exact-count-spec : {M : Type 1} → statement M
 exact-count-spec =
     tie.close
     (tie.spec
-    filter-lent-requires
-    enum-told
+    (λ c κs. search needs)
+    (λ c. search needs)
     num-blocks-requires
     exact-count-requires
-    enum-known-r
+    (λ c. search needs)
     returns
     returns-2)

@@ -7,21 +7,6 @@ use borrow.Author.Needs.{needs}
 use Rattle.counts.proofs.last_entry.Statement.{statement}
 use Rattle.counts.proofs.last_entry.Tie as tie
 
-returns : tie.Need-returns
-returns c = search needs
-
-sub-last : tie.Need-sub-last
-sub-last c = search needs
-
-mul-into-usize : tie.Need-mul-into-usize
-mul-into-usize c = search needs
-
-shared-slice-read-into-usize : tie.Need-shared-slice-read-into-usize
-shared-slice-read-into-usize c = search needs
-
-into-usize-requires : tie.Need-into-usize-requires
-into-usize-requires c κs = search needs
-
 returns-2 : tie.Need-returns-2
 returns-2 c =
     let a = c .before .before .before .before .args in
@@ -31,9 +16,9 @@ pub last-entry-spec : {M : Type 1} → statement M
 last-entry-spec =
     tie.close
     (tie.spec
-    returns
-    sub-last
-    mul-into-usize
-    shared-slice-read-into-usize
-    into-usize-requires
+    (λ c. search needs)
+    (λ c. search needs)
+    (λ c. search needs)
+    (λ c. search needs)
+    (λ c κs. search needs)
     returns-2)

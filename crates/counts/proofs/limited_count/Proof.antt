@@ -17,12 +17,6 @@ told c =
     let a = c .before .before .before .before .before .before .args in
     one (a .f) (a .top .now) (a .blocks .now) (c .before .s .given .0 .0) (c .before .before .before .filter-lent .ensures) (c .before .s .given .1)
 
-filter-lent-requires : tie.Need-filter-lent-requires
-filter-lent-requires c κs = search needs
-
-enum-known-s : tie.Need-enum-known-s
-enum-known-s c = search needs
-
 last-entry-requires : tie.Need-last-entry-requires
 last-entry-requires c κs = omega (arith, told c .fits)
 
@@ -33,9 +27,6 @@ count-ones-from-msb-and-lsb-requires : tie.Need-count-ones-from-msb-and-lsb-requ
 count-ones-from-msb-and-lsb-requires c κs =
     let F = told (c .before .before) .fits in
     (omega arith, omega (arith, c .before .last-entry .ensures), omega (arith, c .num-blocks .ensures), omega (arith, c .num-blocks .ensures))
-
-enum-known-r : tie.Need-enum-known-r
-enum-known-r c = search needs
 
 returns : tie.Need-returns
 returns c =
@@ -54,11 +45,11 @@ pub limited-count-spec : {M : Type 1} → statement M
 limited-count-spec =
     tie.close
     (tie.spec
-    filter-lent-requires
-    enum-known-s
+    (λ c κs. search needs)
+    (λ c. search needs)
     last-entry-requires
     num-blocks-requires
     count-ones-from-msb-and-lsb-requires
-    enum-known-r
+    (λ c. search needs)
     returns
     returns-2)

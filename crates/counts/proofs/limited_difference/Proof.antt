@@ -17,12 +17,6 @@ told c =
     let a = c .before .before .before .before .before .before .before .before .args in
     two (a .a) (a .top .now) (a .blocks .now) (a .b) (a .top2 .now) (a .blocks2 .now) (c .before .s .given .0 .0) (c .before .before .before .filters-lent .ensures) (c .before .s .given .1)
 
-filters-lent-requires : tie.Need-filters-lent-requires
-filters-lent-requires c κs = search needs
-
-enum-known-s : tie.Need-enum-known-s
-enum-known-s c = search needs
-
 num-blocks-requires : tie.Need-num-blocks-requires
 num-blocks-requires c κs = omega (arith, told c .fits)
 
@@ -35,9 +29,6 @@ count-ones-from-bitchunks-requires c κs =
       fits-walk (c .before .num-blocks .result) (c .before .num-blocks .ensures) (T .fits) .0,
       (fits-walk (c .num-blocks2 .result) (c .num-blocks2 .ensures) (T .fits2) .0, (omega (arith, T .sizes), omega (arith, T .sizes))),
     )
-
-enum-known-r : tie.Need-enum-known-r
-enum-known-r c = search needs
 
 returns : tie.Need-returns
 returns c =
@@ -55,11 +46,11 @@ pub limited-difference-spec : {M : Type 1} → statement M
 limited-difference-spec =
     tie.close
     (tie.spec
-    filters-lent-requires
-    enum-known-s
+    (λ c κs. search needs)
+    (λ c. search needs)
     num-blocks-requires
     num-blocks-requires-2
     count-ones-from-bitchunks-requires
-    enum-known-r
+    (λ c. search needs)
     returns
     returns-2)

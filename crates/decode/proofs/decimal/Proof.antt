@@ -9,16 +9,10 @@ use Rattle.decode.proofs.decimal.Tie as tie
 returns : tie.Need-returns
 returns c = decimal-empty (c .before .before .args .s .now) (c .if1 .taken)
 
-shared-slice-read-if2 : tie.Need-shared-slice-read-if2
-shared-slice-read-if2 c = search needs
-
 returns-2 : tie.Need-returns-2
 returns-2 c =
     let k = c .before .before .before in
     decimal-zero (k .before .before .args .s .now) (k .if1 .left) (c .before .if2 .taken) (c .if3 .taken)
-
-digits-requires : tie.Need-digits-requires
-digits-requires c κs = search needs
 
 returns-3 : tie.Need-returns-3
 returns-3 c =
@@ -27,4 +21,4 @@ returns-3 c =
 
 pub decimal-spec : {M : Type 1} → statement M
 decimal-spec =
-    tie.close (tie.spec returns shared-slice-read-if2 returns-2 digits-requires returns-3)
+    tie.close (tie.spec returns (λ c. search needs) returns-2 (λ c κs. search needs) returns-3)

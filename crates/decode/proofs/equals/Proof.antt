@@ -9,13 +9,10 @@ returns c =
     let a = c .before .before .before .args in
     other-length (a .s .now) (a .word .now) (c .if1 .taken)
 
-starts-with-requires : tie.Need-starts-with-requires
-starts-with-requires c κs = search needs
-
 returns-2 : tie.Need-returns-2
 returns-2 c =
     let a = c .before .before .before .before .args in
     starts-same (a .s .now) (a .word .now) _ (c .before .if1 .left) (c .starts-with .ensures)
 
 pub equals-spec : {M : Type 1} → statement M
-equals-spec = tie.close (tie.spec returns starts-with-requires returns-2)
+equals-spec = tie.close (tie.spec returns (λ c κs. search needs) returns-2)

@@ -20,30 +20,6 @@ returns c = odd-hex (c .before .before .before .args .s .now) (c .if1 .taken)
 loop-holds : tie.Need-loop-holds Inv-loop μ-loop
 loop-holds c = decoding-start _ _ (c .before .before .before .pre) (c .if1 .left)
 
-mul-value : tie.Need-mul-value Inv-loop μ-loop
-mul-value c = search needs
-
-shared-slice-read-value : tie.Need-shared-slice-read-value Inv-loop μ-loop
-shared-slice-read-value c = search needs
-
-value-requires : tie.Need-value-requires Inv-loop μ-loop
-value-requires c κs = search needs
-
-mul-value-2 : tie.Need-mul-value-2 Inv-loop μ-loop
-mul-value-2 c = search needs
-
-add-value : tie.Need-add-value Inv-loop μ-loop
-add-value c = search needs
-
-shared-slice-read-value-2 : tie.Need-shared-slice-read-value-2 Inv-loop μ-loop
-shared-slice-read-value-2 c = search needs
-
-value-requires-2 : tie.Need-value-requires-2 Inv-loop μ-loop
-value-requires-2 c κs = search needs
-
-same-length : tie.Need-same-length Inv-loop μ-loop
-same-length c = search needs
-
 returns-2 : tie.Need-returns-2 Inv-loop μ-loop
 returns-2 c =
     let l = c .before in
@@ -51,20 +27,8 @@ returns-2 c =
     let k = h .before .before in
     decoding-not (k .before .loop .inv) (k .loop-test .taken) _ _ (h .value .ensures) (l .value2 .ensures) (⊎-map (λ w. w .taken) (λ w. w .1 .taken) (c .if2 .came))
 
-mul-to : tie.Need-mul-to Inv-loop μ-loop
-mul-to c = search needs
-
 add-to : tie.Need-add-to Inv-loop μ-loop
 add-to c = omega (arith, ltb-false 15 (c .before .before .value2 .result) (c .if3 .left))
-
-slice-write-to : tie.Need-slice-write-to Inv-loop μ-loop
-slice-write-to c = search needs
-
-add-i : tie.Need-add-i Inv-loop μ-loop
-add-i c = search needs
-
-loop-less : tie.Need-loop-less Inv-loop μ-loop
-loop-less c = search needs
 
 loop-again : tie.Need-loop-again Inv-loop μ-loop
 loop-again c =
@@ -72,9 +36,6 @@ loop-again c =
     let h = l .before .before in
     let k = h .before .before in
     decoding-turn (k .before .loop .inv) (k .loop-test .taken) _ _ (h .value .ensures) (l .value2 .ensures) (c .before .if2 .left) (c .if3 .left)
-
-same-length-2 : tie.Need-same-length-2 Inv-loop μ-loop
-same-length-2 c = search needs
 
 returns-3 : tie.Need-returns-3 Inv-loop μ-loop
 returns-3 c = decoding-end (c .before .loop .inv) (c .loop-test .left)
@@ -87,20 +48,20 @@ from-hex-spec =
     μ-loop
     returns
     loop-holds
-    mul-value
-    shared-slice-read-value
-    value-requires
-    mul-value-2
-    add-value
-    shared-slice-read-value-2
-    value-requires-2
-    same-length
+    (λ c. search needs)
+    (λ c. search needs)
+    (λ c κs. search needs)
+    (λ c. search needs)
+    (λ c. search needs)
+    (λ c. search needs)
+    (λ c κs. search needs)
+    (λ c. search needs)
     returns-2
-    mul-to
+    (λ c. search needs)
     add-to
-    slice-write-to
-    add-i
-    loop-less
+    (λ c. search needs)
+    (λ c. search needs)
+    (λ c. search needs)
     loop-again
-    same-length-2
+    (λ c. search needs)
     returns-3)

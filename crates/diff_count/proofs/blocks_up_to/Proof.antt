@@ -16,33 +16,11 @@ abbrev μ-loop : tie.MeasureT-loop
 loop-holds : tie.Need-loop-holds Inv-loop μ-loop
 loop-holds c = reach-start _ _ _
 
-mul-into-usize : tie.Need-mul-into-usize Inv-loop μ-loop
-mul-into-usize c = omega arith
-
-shared-slice-read-into-usize : tie.Need-shared-slice-read-into-usize Inv-loop μ-loop
-shared-slice-read-into-usize c = omega arith
-
-into-usize-requires : tie.Need-into-usize-requires Inv-loop μ-loop
-into-usize-requires c κs = search needs
-
-into-index-requires : tie.Need-into-index-requires Inv-loop μ-loop
-into-index-requires c κs = search needs
-
-add-up-to : tie.Need-add-up-to Inv-loop μ-loop
-add-up-to c = omega arith
-
-add-i : tie.Need-add-i Inv-loop μ-loop
-add-i c = omega arith
-
-loop-less : tie.Need-loop-less Inv-loop μ-loop
-loop-less c = omega arith
-
 loop-again : tie.Need-loop-again Inv-loop μ-loop
 loop-again c =
-    let x = c .before in
-    let u = x .before in
-    let k = u .before .before .before in
-    reach-turn (k .loop .inv) (x .into-index .result + 1) (c .if1 .most) (omega arith) (omega (arith, x .into-index .ensures, u .into-usize .ensures))
+    let u = c .before .before in
+    reach-turn (u .before .before .before .loop .inv) (c .before .into-index .result + 1) (c .if1 .most)
+    (omega arith) (omega (arith, c .before .into-index .ensures, u .into-usize .ensures))
     (⊎-elim (λ w. omega arith) (λ w. omega arith) (c .if1 .came))
 
 returns : tie.Need-returns Inv-loop μ-loop
@@ -55,12 +33,12 @@ blocks-up-to-spec =
     Inv-loop
     μ-loop
     loop-holds
-    mul-into-usize
-    shared-slice-read-into-usize
-    into-usize-requires
-    into-index-requires
-    add-up-to
-    add-i
-    loop-less
+    (λ c. omega arith)
+    (λ c. omega arith)
+    (λ c κs. search needs)
+    (λ c κs. search needs)
+    (λ c. omega arith)
+    (λ c. omega arith)
+    (λ c. omega arith)
     loop-again
     returns)

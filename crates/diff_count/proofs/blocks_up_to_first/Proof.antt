@@ -9,13 +9,10 @@ returns c =
     let s = c .before .before in
     up-to-none (s .args .list .now) (s .args .n) (s .args .least) (s .pre .0) (c .if1 .taken)
 
-blocks-up-to-requires : tie.Need-blocks-up-to-requires
-blocks-up-to-requires c κs = search needs
-
 returns-2 : tie.Need-returns-2
 returns-2 c =
     let s = c .before .before .before in
     up-to-first (s .args .list .now) (s .args .n) (s .args .least) (s .pre .0) (c .before .if1 .left) (s .pre .1) (c .blocks-up-to .ensures)
 
 pub blocks-up-to-first-spec : {M : Type 1} → statement M
-blocks-up-to-first-spec = tie.close (tie.spec returns blocks-up-to-requires returns-2)
+blocks-up-to-first-spec = tie.close (tie.spec returns (λ c κs. search needs) returns-2)

@@ -7,43 +7,48 @@ use borrow.Author.Needs.{needs}
 use Rattle.diff_count.proofs.empty.Statement.{statement}
 use Rattle.diff_count.proofs.empty.Tie as tie
 
-areas-requires : tie.Need-areas-requires
-areas-requires c κs = search needs
-
-enum-known-s : tie.Need-enum-known-s
-enum-known-s c = search needs
-
 zero-cells-requires : tie.Need-zero-cells-requires
-zero-cells-requires c κs = (omega arith, areas-room (c .before .before .before .before .before .before .before .args .config) (c .before .before .before .before .before .before .before .args .top .now) (c .before .before .before .before .before .before .before .args .blocks .now) (c .before .before .s .given .0 .0) (sym (c .before .before .before .before .areas .ensures) ∙ c .before .before .s .given .1) .cells)
+zero-cells-requires c κs =
+    let k = c .before .before in
+    let a = k .before .before in
+    let s = a .before .before .before in (
+      omega arith,
+      areas-room _ (s .args .top .now) (s .args .blocks .now) _
+          (sym (a .areas .ensures) ∙ k .s .given .1) .cells,
+    )
 
 zero-blocks-requires : tie.Need-zero-blocks-requires
-zero-blocks-requires c κs = (omega arith, areas-room (c .before .before .before .before .before .before .before .before .before .before .before .args .config) (c .before .before .before .before .before .before .before .before .before .before .before .args .top .now) (c .before .before .before .before .before .before .before .before .before .before .before .args .blocks .now) (c .before .before .before .before .before .before .s .given .0 .0) (sym (c .before .before .before .before .before .before .before .before .areas .ensures) ∙ c .before .before .before .before .before .before .s .given .1) .blocksIn)
-
-enum-known-r : tie.Need-enum-known-r
-enum-known-r c = search needs
-
-same-length : tie.Need-same-length
-same-length c = search needs
-
-same-length-2 : tie.Need-same-length-2
-same-length-2 c = search needs
+zero-blocks-requires c κs =
+    let k = c .before .before .before in
+    let j = k .before .before .before in
+    let a = j .before .before in
+    let s = a .before .before .before in (
+      omega arith,
+      areas-room _ (s .args .top .now) (s .args .blocks .now) _
+          (sym (a .areas .ensures) ∙ j .s .given .1) .blocksIn,
+    )
 
 returns : tie.Need-returns
-returns c = empty-ready (c .before .before .before .before .before .before .before .before .before .before .before .before .before .before .args .config) (c .before .before .before .before .before .before .before .before .before .before .before .before .before .before .args .top .now) (c .before .before .before .before .before .before .before .before .before .before .before .before .before .before .args .blocks .now) (c .before .before .before .before .before .before .before .before .before .s .given .0 .0) (sym (c .before .before .before .before .before .before .before .before .before .before .before .areas .ensures) ∙ c .before .before .before .before .before .before .before .before .before .s .given .1) (c .before .before .before .before .before .before .zero-cells .ensures) (c .before .before .zero-blocks .ensures)
+returns c =
+    let z = c .before .before in
+    let k = z .before .before .before .before in
+    let j = k .before .before .before in
+    empty-ready _ _ _ _ (sym (j .before .before .areas .ensures) ∙ j .s .given .1) (k .zero-cells .ensures)
+    (z .zero-blocks .ensures)
 
 returns-2 : tie.Need-returns-2
-returns-2 c = empty-refused (c .before .before .before .before .before .before .args .config) (c .before .before .before .before .before .before .args .top .now) (c .before .before .before .before .before .before .args .blocks .now) (c .before .r .given .0 .0) (sym (c .before .before .before .areas .ensures) ∙ c .before .r .given .1)
+returns-2 c = empty-refused _ _ _ _ (sym (c .before .before .before .areas .ensures) ∙ c .before .r .given .1)
 
 pub empty-spec : {M : Type 1} → statement M
 empty-spec =
     tie.close
     (tie.spec
-    areas-requires
-    enum-known-s
+    (λ c κs. search needs)
+    (λ c. search needs)
     zero-cells-requires
     zero-blocks-requires
-    enum-known-r
-    same-length
-    same-length-2
+    (λ c. search needs)
+    (λ c. search needs)
+    (λ c. search needs)
     returns
     returns-2)

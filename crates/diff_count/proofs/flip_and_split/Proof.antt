@@ -10,19 +10,18 @@ blocks-up-to-first-requires c κs =
     let s = c .before .before .before .before in
     tops-led (filter-holds _ _ _ _ _ _ (s .pre .1 .0)) (s .pre .0 .some)
 
-blocks-up-to-requires : tie.Need-blocks-up-to-requires
-blocks-up-to-requires c κs = search needs
-
 fold-requires : tie.Need-fold-requires
 fold-requires c κs =
-    let s = c .before .before .before .before .before .before .before .before in
+    let k = c .before .before .before .before in
+    let s = k .before .before .before .before in
     let H = filter-holds _ _ _ _ _ _ (s .pre .1 .0) in
     fold-fits (s .args .list .now) (s .pre .0) H (s .pre .1 .1)
 
 toggle-all-requires : tie.Need-toggle-all-requires
 toggle-all-requires c κs =
     let f = c .before .before .before in
-    let s = f .before .before .before .before .before .before .before .before .before in
+    let k = f .before .before .before .before .before in
+    let s = k .before .before .before .before in
     let H = filter-holds _ _ _ _ _ _ (s .pre .1 .0) in
     list-fits (s .args .list .now) (s .pre .0) H (s .pre .1 .1) (f .fold .last .1 .1 .0) (f .fold .kept .1 .1 .0)
 
@@ -31,34 +30,34 @@ split-requires c κs =
     let t = c .before .before .before .before in
     let f = t .before .before .before .before in
     let u = f .before .before .before in
-    let s = u .before .before .before .before .before .before in
-    let H = filter-holds _ _ _ _ _ _ (s .pre .1 .0) in
-    (search needs, flip-ends (s .args .list .now) (s .pre .0) H (s .pre .1 .1) (f .fold .kept .1 .1 .0) (f .fold .ensures) (t .toggle-all .ensures) (u .before .blocks-up-to-first .ensures) (u .blocks-up-to .ensures))
-
-same-length : tie.Need-same-length
-same-length c = search needs
-
-same-length-2 : tie.Need-same-length-2
-same-length-2 c = search needs
+    let k = u .before .before .before in
+    let s = k .before .before .before in
+    let H = filter-holds _ _ _ _ _ _ (s .pre .1 .0) in (
+      search needs,
+      flip-ends (s .args .list .now) (s .pre .0) H (s .pre .1 .1) (f .fold .kept .1 .1 .0)
+          (f .fold .ensures) (t .toggle-all .ensures) (u .before .blocks-up-to-first .ensures) (u .blocks-up-to .ensures),
+    )
 
 returns : tie.Need-returns
 returns c =
     let p = c .before .before .before .before in
     let t = p .before .before .before .before .before in
     let f = t .before .before .before .before in
-    let s = f .before .before .before .before .before .before .before .before .before in
+    let k = f .before .before .before .before .before in
+    let s = k .before .before .before .before in
     let H = filter-holds _ _ _ _ _ _ (s .pre .1 .0) in
-    flip-becomes (s .args .list .now) (s .pre .0) H (s .pre .1 .1) (f .fold .kept .1 .1 .0) (f .fold .ensures) (t .toggle-all .ensures) (p .split .ensures)
+    flip-becomes (s .args .list .now) (s .pre .0) H (s .pre .1 .1) (f .fold .kept .1 .1 .0) (f .fold .ensures)
+    (t .toggle-all .ensures) (p .split .ensures)
 
 pub flip-and-split-spec : {M : Type 1} → statement M
 flip-and-split-spec =
     tie.close
     (tie.spec
     blocks-up-to-first-requires
-    blocks-up-to-requires
+    (λ c κs. search needs)
     fold-requires
     toggle-all-requires
     split-requires
-    same-length
-    same-length-2
+    (λ c. search needs)
+    (λ c. search needs)
     returns)

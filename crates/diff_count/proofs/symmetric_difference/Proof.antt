@@ -5,41 +5,30 @@ use borrow.Author.Needs.{needs}
 use Rattle.diff_count.proofs.symmetric_difference.Statement.{statement}
 use Rattle.diff_count.proofs.symmetric_difference.Tie as tie
 
-two-filters-requires : tie.Need-two-filters-requires
-two-filters-requires c κs = search needs
-
-enum-known-s : tie.Need-enum-known-s
-enum-known-s c = search needs
-
 xor-requires : tie.Need-xor-requires
-xor-requires c κs = difference-asks (c .before .before .before .before .before .before .before .before .before .before .before .before .args .a) (c .before .before .before .before .before .before .before .before .before .before .before .before .args .top .now) (c .before .before .before .before .before .before .before .before .before .before .before .before .args .blocks .now) (c .before .before .before .before .before .before .before .before .before .before .before .before .args .b) (c .before .before .before .before .before .before .before .before .before .before .before .before .args .top2 .now) (c .before .before .before .before .before .before .before .before .before .before .before .before .args .blocks2 .now) (c .before .before .before .before .before .before .before .before .before .before .before .before .args .to-top .now) (c .before .before .before .before .before .before .before .before .before .before .before .before .args .to-blocks .now) (c .before .before .before .s .given .0 .0) (sym (c .before .before .before .before .before .two-filters .ensures) ∙ c .before .before .before .s .given .1)
-
-enum-known-r : tie.Need-enum-known-r
-enum-known-r c = search needs
-
-same-length : tie.Need-same-length
-same-length c = search needs
-
-same-length-2 : tie.Need-same-length-2
-same-length-2 c = search needs
+xor-requires c κs =
+    let k = c .before .before .before in
+    difference-asks _ _ _ _ _ _ _ _ _ (sym (k .before .before .two-filters .ensures) ∙ k .s .given .1)
 
 returns : tie.Need-returns
 returns c =
-    difference-ready (c .before .before .before .before .before .before .before .before .before .before .before .before .before .before .before .before .before .args .a) (c .before .before .before .before .before .before .before .before .before .before .before .before .before .before .before .before .before .args .top .now) (c .before .before .before .before .before .before .before .before .before .before .before .before .before .before .before .before .before .args .blocks .now) (c .before .before .before .before .before .before .before .before .before .before .before .before .before .before .before .before .before .args .b) (c .before .before .before .before .before .before .before .before .before .before .before .before .before .before .before .before .before .args .top2 .now) (c .before .before .before .before .before .before .before .before .before .before .before .before .before .before .before .before .before .args .blocks2 .now) (c .before .before .before .before .before .before .before .before .before .before .before .before .before .before .before .before .before .args .to-top .now) (c .before .before .before .before .before .before .before .before .before .before .before .before .before .before .before .before .before .args .to-blocks .now) (c .before .before .before .before .before .before .before .before .s .given .0 .0) (sym (c .before .before .before .before .before .before .before .before .before .before .two-filters .ensures) ∙ c .before .before .before .before .before .before .before .before .s .given .1)
-    (c .before .before .before .before .xor .ensures)
+    let x = c .before .before .before .before in
+    let k = x .before .before .before .before in
+    difference-ready _ _ _ _ _ _ _ _ _ (sym (k .before .before .two-filters .ensures) ∙ k .s .given .1)
+    (x .xor .ensures)
 
 returns-2 : tie.Need-returns-2
-returns-2 c = difference-refused (c .before .before .before .before .before .before .before .before .before .before .args .a) (c .before .before .before .before .before .before .before .before .before .before .args .top .now) (c .before .before .before .before .before .before .before .before .before .before .args .blocks .now) (c .before .before .before .before .before .before .before .before .before .before .args .b) (c .before .before .before .before .before .before .before .before .before .before .args .top2 .now) (c .before .before .before .before .before .before .before .before .before .before .args .blocks2 .now) (c .before .before .before .before .before .before .before .before .before .before .args .to-top .now) (c .before .before .before .before .before .before .before .before .before .before .args .to-blocks .now) (c .before .r .given .0 .0) (sym (c .before .before .before .two-filters .ensures) ∙ c .before .r .given .1)
+returns-2 c = difference-refused _ _ _ _ _ _ _ _ _ (sym (c .before .before .before .two-filters .ensures) ∙ c .before .r .given .1)
 
 pub symmetric-difference-spec : {M : Type 1} → statement M
 symmetric-difference-spec =
     tie.close
     (tie.spec
-    two-filters-requires
-    enum-known-s
+    (λ c κs. search needs)
+    (λ c. search needs)
     xor-requires
-    enum-known-r
-    same-length
-    same-length-2
+    (λ c. search needs)
+    (λ c. search needs)
+    (λ c. search needs)
     returns
     returns-2)

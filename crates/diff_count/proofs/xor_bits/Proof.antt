@@ -19,20 +19,19 @@ num-blocks-requires c κs =
 
 xor-requires : tie.Need-xor-requires
 xor-requires c κs =
-    let n = c .before in
-    let s = n .before .before .before .before .before in
-    bits-fit (s .args .to-blocks .now) (s .pre .1 .0) (s .pre .1 .1) (s .pre .0 .0) (n .num-blocks .ensures ∙ ap blocksFor (edge-is (n .before)))
+    let k = c .before .before in
+    let s = k .before .before .before .before in
+    bits-fit (s .args .to-blocks .now) (s .pre .1 .0) (s .pre .1 .1) (s .pre .0 .0)
+    (c .before .num-blocks .ensures ∙ ap blocksFor (edge-is k))
 
 zero-blocks-requires : tie.Need-zero-blocks-requires
 zero-blocks-requires c κs =
     let x = c .before .before .before in
     let n = x .before .before in
     let s = n .before .before .before .before .before in
-    zeros-fit (s .args .to-blocks .now) (s .pre .1 .0) (s .pre .1 .1) (s .pre .0 .0) (n .num-blocks .ensures ∙ ap blocksFor (edge-is (n .before)))
+    zeros-fit (s .args .to-blocks .now) (s .pre .1 .0) (s .pre .1 .1) (s .pre .0 .0)
+    (n .num-blocks .ensures ∙ ap blocksFor (edge-is (n .before)))
     (x .xor .last .0) (x .xor .kept .0)
-
-same-length : tie.Need-same-length
-same-length c = search needs
 
 returns : tie.Need-returns
 returns c =
@@ -40,9 +39,9 @@ returns c =
     let x = z .before .before .before .before in
     let n = x .before .before in
     let s = n .before .before .before .before .before in
-    bits-apart (s .args .to-blocks .now) (s .pre .1 .0) (s .pre .1 .1) (s .pre .0 .0) (n .num-blocks .ensures ∙ ap blocksFor (edge-is (n .before)))
+    bits-apart _ (s .pre .1 .0) (s .pre .1 .1) (s .pre .0 .0) (n .num-blocks .ensures ∙ ap blocksFor (edge-is (n .before)))
     (x .xor .kept .0) (x .xor .ensures) (z .zero-blocks .ensures)
 
 pub xor-bits-spec : {M : Type 1} → statement M
 xor-bits-spec =
-    tie.close (tie.spec num-blocks-requires xor-requires zero-blocks-requires same-length returns)
+    tie.close (tie.spec num-blocks-requires xor-requires zero-blocks-requires (λ c. search needs) returns)

@@ -14,43 +14,16 @@ Inv-loop out at n digits₀ i₀ rest₀ digits i rest = Digits n digits i rest
 abbrev μ-loop : tie.MeasureT-loop
 μ-loop out at n digits₀ i₀ rest₀ digits i rest = rest
 
-slice-write-out : tie.Need-slice-write-out Inv-loop μ-loop
-slice-write-out c = omega arith
-
 loop-holds : tie.Need-loop-holds Inv-loop μ-loop
 loop-holds c = digits-start (c .before .args .n) (omega arith)
 
-hex-digit-requires : tie.Need-hex-digit-requires Inv-loop μ-loop
-hex-digit-requires c κs = omega arith
-
-array-write-digits : tie.Need-array-write-digits Inv-loop μ-loop
-array-write-digits c = omega arith
-
 sub-i : tie.Need-sub-i Inv-loop μ-loop
 sub-i c = digits-left (c .before .before .loop .i) (c .before .loop-test .taken) (c .before .before .loop .inv)
-
-loop-less : tie.Need-loop-less Inv-loop μ-loop
-loop-less c = omega arith
 
 loop-again : tie.Need-loop-again Inv-loop μ-loop
 loop-again c =
     let l = c .before .before .loop in
     digits-turn (l .i) (c .hex-digit .result) (c .before .loop-test .taken) (c .hex-digit .ensures) (l .inv)
-
-hex-digit-requires-2 : tie.Need-hex-digit-requires-2 Inv-loop μ-loop
-hex-digit-requires-2 c κs = omega arith
-
-array-write-digits-2 : tie.Need-array-write-digits-2 Inv-loop μ-loop
-array-write-digits-2 c = omega arith
-
-add-put : tie.Need-add-put Inv-loop μ-loop
-add-put c = omega arith
-
-sub-put : tie.Need-sub-put Inv-loop μ-loop
-sub-put c = omega arith
-
-part-put-start : tie.Need-part-put-start Inv-loop μ-loop
-part-put-start c = omega arith
 
 part-put-end : tie.Need-part-put-end Inv-loop μ-loop
 part-put-end c =
@@ -78,18 +51,18 @@ put-decimal-spec =
     (tie.spec
     Inv-loop
     μ-loop
-    slice-write-out
+    (λ c. omega arith)
     loop-holds
-    hex-digit-requires
-    array-write-digits
+    (λ c κs. omega arith)
+    (λ c. omega arith)
     sub-i
-    loop-less
+    (λ c. omega arith)
     loop-again
-    hex-digit-requires-2
-    array-write-digits-2
-    add-put
-    sub-put
-    part-put-start
+    (λ c κs. omega arith)
+    (λ c. omega arith)
+    (λ c. omega arith)
+    (λ c. omega arith)
+    (λ c. omega arith)
     part-put-end
     put-requires
     same-length

@@ -16,49 +16,19 @@ Inv-loop out₀ at n i₀ out i = Putting (toHex 16 n) out₀ (at + 1) out i
 abbrev μ-loop : tie.MeasureT-loop
 μ-loop out₀ at n i₀ out i = 16 - i
 
-slice-write-out : tie.Need-slice-write-out Inv-loop μ-loop
-slice-write-out c = omega arith
-
 loop-holds : tie.Need-loop-holds Inv-loop μ-loop
 loop-holds c = putting-start (toHex 16 (c .before .args .n)) (set (c .before .args .out .now) (c .before .args .at) space) (c .before .args .at + 1)
-
-mul-hex-digit : tie.Need-mul-hex-digit Inv-loop μ-loop
-mul-hex-digit c = omega arith
-
-sub-hex-digit : tie.Need-sub-hex-digit Inv-loop μ-loop
-sub-hex-digit c = omega arith
-
-shr-hex-digit : tie.Need-shr-hex-digit Inv-loop μ-loop
-shr-hex-digit c = omega arith
-
-hex-digit-requires : tie.Need-hex-digit-requires Inv-loop μ-loop
-hex-digit-requires c κs = omega arith
-
-add-out : tie.Need-add-out Inv-loop μ-loop
-add-out c = omega arith
-
-add-out-2 : tie.Need-add-out-2 Inv-loop μ-loop
-add-out-2 c = omega arith
 
 slice-write-out-2 : tie.Need-slice-write-out-2 Inv-loop μ-loop
 slice-write-out-2 c =
     let a = c .before .before .before .before .args in
     omega (arith, length-set (a .out .now) (a .at) space)
 
-add-i : tie.Need-add-i Inv-loop μ-loop
-add-i c = omega arith
-
-loop-less : tie.Need-loop-less Inv-loop μ-loop
-loop-less c = omega arith
-
 loop-again : tie.Need-loop-again Inv-loop μ-loop
 loop-again c =
     let l = c .before .before .loop in
     putting-turn (l .inv) _ (c .before .loop-test .taken)
     (digit-shifted (c .before .before .before .before .args .n) (l .i) (c .before .loop-test .taken) (c .hex-digit .ensures))
-
-add-result : tie.Need-add-result Inv-loop μ-loop
-add-result c = omega arith
 
 same-length : tie.Need-same-length Inv-loop μ-loop
 same-length c = c .before .loop .inv .lengthIs ∙ simp length-set
@@ -74,18 +44,18 @@ put-hex-spec =
     (tie.spec
     Inv-loop
     μ-loop
-    slice-write-out
+    (λ c. omega arith)
     loop-holds
-    mul-hex-digit
-    sub-hex-digit
-    shr-hex-digit
-    hex-digit-requires
-    add-out
-    add-out-2
+    (λ c. omega arith)
+    (λ c. omega arith)
+    (λ c. omega arith)
+    (λ c κs. omega arith)
+    (λ c. omega arith)
+    (λ c. omega arith)
     slice-write-out-2
-    add-i
-    loop-less
+    (λ c. omega arith)
+    (λ c. omega arith)
     loop-again
-    add-result
+    (λ c. omega arith)
     same-length
     returns)

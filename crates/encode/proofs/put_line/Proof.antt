@@ -14,28 +14,10 @@ Inv-loop out₀ at word numbers end₀ i₀ t7 out end i = Listing numbers out�
 abbrev μ-loop : tie.MeasureT-loop
 μ-loop out₀ at word numbers end₀ i₀ t7 out end i = length numbers - i
 
-put-requires : tie.Need-put-requires Inv-loop μ-loop
-put-requires c κs = omega arith
-
 loop-holds : tie.Need-loop-holds Inv-loop μ-loop
 loop-holds c =
     let p = c .before .before in
     listing-start (p .before .before .before .before .before .args .numbers .now) (p .put .last .0) (p .put .result)
-
-mul-put-decimal : tie.Need-mul-put-decimal Inv-loop μ-loop
-mul-put-decimal c = omega arith
-
-shared-slice-read-put-decimal : tie.Need-shared-slice-read-put-decimal Inv-loop μ-loop
-shared-slice-read-put-decimal c = omega arith
-
-put-decimal-requires : tie.Need-put-decimal-requires Inv-loop μ-loop
-put-decimal-requires c κs = omega arith
-
-add-i : tie.Need-add-i Inv-loop μ-loop
-add-i c = omega arith
-
-loop-less : tie.Need-loop-less Inv-loop μ-loop
-loop-less c = omega arith
 
 loop-again : tie.Need-loop-again Inv-loop μ-loop
 loop-again c =
@@ -45,9 +27,6 @@ loop-again c =
 
 slice-aggregate-put : tie.Need-slice-aggregate-put Inv-loop μ-loop
 slice-aggregate-put c = refl
-
-put-requires-2 : tie.Need-put-requires-2 Inv-loop μ-loop
-put-requires-2 c κs = omega arith
 
 same-length : tie.Need-same-length Inv-loop μ-loop
 same-length c =
@@ -68,15 +47,15 @@ put-line-spec =
     (tie.spec
     Inv-loop
     μ-loop
-    put-requires
+    (λ c κs. omega arith)
     loop-holds
-    mul-put-decimal
-    shared-slice-read-put-decimal
-    put-decimal-requires
-    add-i
-    loop-less
+    (λ c. omega arith)
+    (λ c. omega arith)
+    (λ c κs. omega arith)
+    (λ c. omega arith)
+    (λ c. omega arith)
     loop-again
     slice-aggregate-put
-    put-requires-2
+    (λ c κs. omega arith)
     same-length
     returns)

@@ -6,12 +6,6 @@ use borrow.Author.Needs.{needs}
 use Rattle.exports.proofs.put_built.Statement.{statement}
 use Rattle.exports.proofs.put_built.Tie as tie
 
-enum-known-built : tie.Need-enum-known-built
-enum-known-built c = search needs
-
-enum-known-built-2 : tie.Need-enum-known-built-2
-enum-known-built-2 c = search needs
-
 returns : tie.Need-returns
 unfolding builtTold
 returns c = given (ap builtTold (c .before .before .built .given .1))
@@ -21,4 +15,4 @@ unfolding builtTold
 returns-2 c = refusing (ap builtTold (c .before .built2 .given .1))
 
 pub put-built-spec : {M : Type 1} → statement M
-put-built-spec = tie.close (tie.spec enum-known-built enum-known-built-2 returns returns-2)
+put-built-spec = tie.close (tie.spec (λ c. search needs) (λ c. search needs) returns returns-2)

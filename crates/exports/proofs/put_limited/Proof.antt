@@ -6,12 +6,6 @@ use borrow.Author.Needs.{needs}
 use Rattle.exports.proofs.put_limited.Statement.{statement}
 use Rattle.exports.proofs.put_limited.Tie as tie
 
-enum-known-answer : tie.Need-enum-known-answer
-enum-known-answer c = search needs
-
-enum-known-answer-2 : tie.Need-enum-known-answer-2
-enum-known-answer-2 c = search needs
-
 returns : tie.Need-returns
 unfolding limitedTold
 returns c = given (ap limitedTold (c .before .before .answer .given .1))
@@ -21,4 +15,4 @@ unfolding limitedTold
 returns-2 c = refusing (ap limitedTold (c .before .answer2 .given .1))
 
 pub put-limited-spec : {M : Type 1} → statement M
-put-limited-spec = tie.close (tie.spec enum-known-answer enum-known-answer-2 returns returns-2)
+put-limited-spec = tie.close (tie.spec (λ c. search needs) (λ c. search needs) returns returns-2)

@@ -6,12 +6,6 @@ use borrow.Author.Needs.{needs}
 use Rattle.exports.proofs.put_made.Statement.{statement}
 use Rattle.exports.proofs.put_made.Tie as tie
 
-enum-known-made : tie.Need-enum-known-made
-enum-known-made c = search needs
-
-enum-known-made-2 : tie.Need-enum-known-made-2
-enum-known-made-2 c = search needs
-
 returns : tie.Need-returns
 unfolding madeTold
 returns c = given (ap madeTold (c .before .before .made .given .1))
@@ -21,4 +15,4 @@ unfolding madeTold
 returns-2 c = refusing (ap madeTold (c .before .made2 .given .1))
 
 pub put-made-spec : {M : Type 1} → statement M
-put-made-spec = tie.close (tie.spec enum-known-made enum-known-made-2 returns returns-2)
+put-made-spec = tie.close (tie.spec (λ c. search needs) (λ c. search needs) returns returns-2)

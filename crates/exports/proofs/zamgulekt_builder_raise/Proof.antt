@@ -9,15 +9,6 @@ use borrow.Author.Needs.{needs}
 use Rattle.exports.proofs.zamgulekt_builder_raise.Statement.{statement}
 use Rattle.exports.proofs.zamgulekt_builder_raise.Tie as tie
 
-builder-in-requires : tie.Need-builder-in-requires
-builder-in-requires c κs = search needs
-
-raise-requires : tie.Need-raise-requires
-raise-requires c κs = search needs
-
-put-built-requires : tie.Need-put-built-requires
-put-built-requires c κs = search needs
-
 returns : tie.Need-returns
 returns c =
     let t = c .before in
@@ -27,4 +18,4 @@ returns c =
 
 pub zamgulekt-builder-raise-spec : {M : Type 1} → statement M
 zamgulekt-builder-raise-spec =
-    tie.close (tie.spec builder-in-requires raise-requires put-built-requires returns)
+    tie.close (tie.spec (λ c κs. search needs) (λ c κs. search needs) (λ c κs. search needs) returns)

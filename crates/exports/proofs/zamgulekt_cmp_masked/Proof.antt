@@ -9,18 +9,6 @@ use borrow.Author.Needs.{needs}
 use Rattle.exports.proofs.zamgulekt_cmp_masked.Statement.{statement}
 use Rattle.exports.proofs.zamgulekt_cmp_masked.Tie as tie
 
-filter-in-requires : tie.Need-filter-in-requires
-filter-in-requires c κs = search needs
-
-filter-in-requires-2 : tie.Need-filter-in-requires-2
-filter-in-requires-2 c κs = search needs
-
-cmp-masked-requires : tie.Need-cmp-masked-requires
-cmp-masked-requires c κs = search needs
-
-put-order-requires : tie.Need-put-order-requires
-put-order-requires c κs = search needs
-
 returns : tie.Need-returns
 returns c =
     let t = c .before in
@@ -37,8 +25,8 @@ pub zamgulekt-cmp-masked-spec : {M : Type 1} → statement M
 zamgulekt-cmp-masked-spec =
     tie.close
     (tie.spec
-    filter-in-requires
-    filter-in-requires-2
-    cmp-masked-requires
-    put-order-requires
+    (λ c κs. search needs)
+    (λ c κs. search needs)
+    (λ c κs. search needs)
+    (λ c κs. search needs)
     returns)

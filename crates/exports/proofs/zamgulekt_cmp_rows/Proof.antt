@@ -6,14 +6,8 @@ use borrow.Author.Needs.{needs}
 use Rattle.exports.proofs.zamgulekt_cmp_rows.Statement.{statement}
 use Rattle.exports.proofs.zamgulekt_cmp_rows.Tie as tie
 
-cmp-rows-requires : tie.Need-cmp-rows-requires
-cmp-rows-requires c κs = search needs
-
-put-order-requires : tie.Need-put-order-requires
-put-order-requires c κs = search needs
-
 returns : tie.Need-returns
 returns c = told-as (ap orderNumbered (c .before .cmp-rows .ensures)) (c .put-order .ensures)
 
 pub zamgulekt-cmp-rows-spec : {M : Type 1} → statement M
-zamgulekt-cmp-rows-spec = tie.close (tie.spec cmp-rows-requires put-order-requires returns)
+zamgulekt-cmp-rows-spec = tie.close (tie.spec (λ c κs. search needs) (λ c κs. search needs) returns)

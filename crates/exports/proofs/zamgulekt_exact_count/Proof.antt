@@ -9,15 +9,6 @@ use borrow.Author.Needs.{needs}
 use Rattle.exports.proofs.zamgulekt_exact_count.Statement.{statement}
 use Rattle.exports.proofs.zamgulekt_exact_count.Tie as tie
 
-filter-in-requires : tie.Need-filter-in-requires
-filter-in-requires c κs = search needs
-
-exact-count-requires : tie.Need-exact-count-requires
-exact-count-requires c κs = search needs
-
-put-count-requires : tie.Need-put-count-requires
-put-count-requires c κs = search needs
-
 returns : tie.Need-returns
 returns c =
     let t = c .before in
@@ -27,4 +18,4 @@ returns c =
 
 pub zamgulekt-exact-count-spec : {M : Type 1} → statement M
 zamgulekt-exact-count-spec =
-    tie.close (tie.spec filter-in-requires exact-count-requires put-count-requires returns)
+    tie.close (tie.spec (λ c κs. search needs) (λ c κs. search needs) (λ c κs. search needs) returns)

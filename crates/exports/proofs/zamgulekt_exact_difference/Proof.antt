@@ -9,18 +9,6 @@ use borrow.Author.Needs.{needs}
 use Rattle.exports.proofs.zamgulekt_exact_difference.Statement.{statement}
 use Rattle.exports.proofs.zamgulekt_exact_difference.Tie as tie
 
-filter-in-requires : tie.Need-filter-in-requires
-filter-in-requires c κs = search needs
-
-filter-in-requires-2 : tie.Need-filter-in-requires-2
-filter-in-requires-2 c κs = search needs
-
-exact-difference-requires : tie.Need-exact-difference-requires
-exact-difference-requires c κs = search needs
-
-put-count-requires : tie.Need-put-count-requires
-put-count-requires c κs = search needs
-
 returns : tie.Need-returns
 returns c =
     let t = c .before in
@@ -37,8 +25,8 @@ pub zamgulekt-exact-difference-spec : {M : Type 1} → statement M
 zamgulekt-exact-difference-spec =
     tie.close
     (tie.spec
-    filter-in-requires
-    filter-in-requires-2
-    exact-difference-requires
-    put-count-requires
+    (λ c κs. search needs)
+    (λ c κs. search needs)
+    (λ c κs. search needs)
+    (λ c κs. search needs)
     returns)

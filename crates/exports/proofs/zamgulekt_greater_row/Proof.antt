@@ -6,21 +6,6 @@ use borrow.Author.Needs.{needs}
 use Rattle.exports.proofs.zamgulekt_greater_row.Statement.{statement}
 use Rattle.exports.proofs.zamgulekt_greater_row.Tie as tie
 
-cmp-rows-requires : tie.Need-cmp-rows-requires
-cmp-rows-requires c κs = search needs
-
-enum-told : tie.Need-enum-told
-enum-told c = search needs
-
-enum-told-2 : tie.Need-enum-told-2
-enum-told-2 c = search needs
-
-enum-told-3 : tie.Need-enum-told-3
-enum-told-3 c = search needs
-
-enum-known-r : tie.Need-enum-known-r
-enum-known-r c = search needs
-
 returns : tie.Need-returns
 unfolding greaterTold
 returns c =
@@ -53,11 +38,11 @@ pub zamgulekt-greater-row-spec : {M : Type 1} → statement M
 zamgulekt-greater-row-spec =
     tie.close
     (tie.spec
-    cmp-rows-requires
-    enum-told
-    enum-told-2
-    enum-told-3
-    enum-known-r
+    (λ c κs. search needs)
+    (λ c. search needs)
+    (λ c. search needs)
+    (λ c. search needs)
+    (λ c. search needs)
     returns
     returns-2
     returns-3

@@ -9,15 +9,6 @@ use borrow.Author.Needs.{needs}
 use Rattle.exports.proofs.zamgulekt_limited_count.Statement.{statement}
 use Rattle.exports.proofs.zamgulekt_limited_count.Tie as tie
 
-filter-in-requires : tie.Need-filter-in-requires
-filter-in-requires c κs = search needs
-
-limited-count-requires : tie.Need-limited-count-requires
-limited-count-requires c κs = search needs
-
-put-limited-requires : tie.Need-put-limited-requires
-put-limited-requires c κs = search needs
-
 returns : tie.Need-returns
 returns c =
     let t = c .before in
@@ -27,4 +18,4 @@ returns c =
 
 pub zamgulekt-limited-count-spec : {M : Type 1} → statement M
 zamgulekt-limited-count-spec =
-    tie.close (tie.spec filter-in-requires limited-count-requires put-limited-requires returns)
+    tie.close (tie.spec (λ c κs. search needs) (λ c κs. search needs) (λ c κs. search needs) returns)

@@ -9,18 +9,6 @@ use borrow.Author.Needs.{needs}
 use Rattle.exports.proofs.zamgulekt_limited_difference.Statement.{statement}
 use Rattle.exports.proofs.zamgulekt_limited_difference.Tie as tie
 
-filter-in-requires : tie.Need-filter-in-requires
-filter-in-requires c κs = search needs
-
-filter-in-requires-2 : tie.Need-filter-in-requires-2
-filter-in-requires-2 c κs = search needs
-
-limited-difference-requires : tie.Need-limited-difference-requires
-limited-difference-requires c κs = search needs
-
-put-limited-requires : tie.Need-put-limited-requires
-put-limited-requires c κs = search needs
-
 returns : tie.Need-returns
 returns c =
     let t = c .before in
@@ -37,8 +25,8 @@ pub zamgulekt-limited-difference-spec : {M : Type 1} → statement M
 zamgulekt-limited-difference-spec =
     tie.close
     (tie.spec
-    filter-in-requires
-    filter-in-requires-2
-    limited-difference-requires
-    put-limited-requires
+    (λ c κs. search needs)
+    (λ c κs. search needs)
+    (λ c κs. search needs)
+    (λ c κs. search needs)
     returns)

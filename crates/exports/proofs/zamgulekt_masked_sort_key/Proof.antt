@@ -9,18 +9,6 @@ use borrow.Author.Needs.{needs}
 use Rattle.exports.proofs.zamgulekt_masked_sort_key.Statement.{statement}
 use Rattle.exports.proofs.zamgulekt_masked_sort_key.Tie as tie
 
-filter-in-requires : tie.Need-filter-in-requires
-filter-in-requires c κs = search needs
-
-masked-sort-key-requires : tie.Need-masked-sort-key-requires
-masked-sort-key-requires c κs = search needs
-
-enum-known-k : tie.Need-enum-known-k
-enum-known-k c = search needs
-
-enum-known-r : tie.Need-enum-known-r
-enum-known-r c = search needs
-
 returns : tie.Need-returns
 unfolding keyTold
 returns c =
@@ -47,9 +35,9 @@ pub zamgulekt-masked-sort-key-spec : {M : Type 1} → statement M
 zamgulekt-masked-sort-key-spec =
     tie.close
     (tie.spec
-    filter-in-requires
-    masked-sort-key-requires
-    enum-known-k
-    enum-known-r
+    (λ c κs. search needs)
+    (λ c κs. search needs)
+    (λ c. search needs)
+    (λ c. search needs)
     returns
     returns-2)

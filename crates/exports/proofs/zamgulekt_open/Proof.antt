@@ -6,15 +6,6 @@ use borrow.Author.Needs.{needs}
 use Rattle.exports.proofs.zamgulekt_open.Statement.{statement}
 use Rattle.exports.proofs.zamgulekt_open.Tie as tie
 
-open-requires : tie.Need-open-requires
-open-requires c κs = search needs
-
-enum-known-n : tie.Need-enum-known-n
-enum-known-n c = search needs
-
-enum-known-r : tie.Need-enum-known-r
-enum-known-r c = search needs
-
 returns : tie.Need-returns
 unfolding openTold
 returns c = given (ap openTold (sym (c .before .before .before .«open» .ensures) ∙ c .before .n .given .1))
@@ -25,4 +16,4 @@ returns-2 c = refusing (ap openTold (sym (c .before .before .before .«open» .e
 
 pub zamgulekt-open-spec : {M : Type 1} → statement M
 zamgulekt-open-spec =
-    tie.close (tie.spec open-requires enum-known-n enum-known-r returns returns-2)
+    tie.close (tie.spec (λ c κs. search needs) (λ c. search needs) (λ c. search needs) returns returns-2)

@@ -9,27 +9,6 @@ use borrow.Author.Needs.{needs}
 use Rattle.exports.proofs.zamgulekt_row_reader_step.Statement.{statement}
 use Rattle.exports.proofs.zamgulekt_row_reader_step.Tie as tie
 
-element-copy-out-config : tie.Need-element-copy-out-config
-element-copy-out-config c = search needs
-
-element-copy-out-step-at : tie.Need-element-copy-out-step-at
-element-copy-out-step-at c = search needs
-
-step-at-requires : tie.Need-step-at-requires
-step-at-requires c κs = search needs
-
-enum-known-answer : tie.Need-enum-known-answer
-enum-known-answer c = search needs
-
-cast-t16 : tie.Need-cast-t16
-cast-t16 c = search needs
-
-enum-told : tie.Need-enum-told
-enum-told c = search needs
-
-enum-known-answer-2 : tie.Need-enum-known-answer-2
-enum-known-answer-2 c = search needs
-
 returns : tie.Need-returns
 unfolding stepTold readerAfter
 returns c =
@@ -58,13 +37,13 @@ pub zamgulekt-row-reader-step-spec : {M : Type 1} → statement M
 zamgulekt-row-reader-step-spec =
     tie.close
     (tie.spec
-    element-copy-out-config
-    element-copy-out-step-at
-    step-at-requires
-    enum-known-answer
-    cast-t16
-    enum-told
-    enum-known-answer-2
+    (λ c. search needs)
+    (λ c. search needs)
+    (λ c κs. search needs)
+    (λ c. search needs)
+    (λ c. search needs)
+    (λ c. search needs)
+    (λ c. search needs)
     returns
     returns-2
     returns-3)

@@ -6,15 +6,6 @@ use borrow.Author.Needs.{needs}
 use Rattle.exports.proofs.zamgulekt_sizes_of.Statement.{statement}
 use Rattle.exports.proofs.zamgulekt_sizes_of.Tie as tie
 
-sizes-of-requires : tie.Need-sizes-of-requires
-sizes-of-requires c κs = search needs
-
-enum-known-s : tie.Need-enum-known-s
-enum-known-s c = search needs
-
-enum-known-r : tie.Need-enum-known-r
-enum-known-r c = search needs
-
 returns : tie.Need-returns
 unfolding sizesTold
 returns c = given (ap sizesTold (sym (c .before .before .before .before .sizes-of .ensures) ∙ c .before .before .s .given .1))
@@ -25,4 +16,4 @@ returns-2 c = refusing (ap sizesTold (sym (c .before .before .before .sizes-of .
 
 pub zamgulekt-sizes-of-spec : {M : Type 1} → statement M
 zamgulekt-sizes-of-spec =
-    tie.close (tie.spec sizes-of-requires enum-known-s enum-known-r returns returns-2)
+    tie.close (tie.spec (λ c κs. search needs) (λ c. search needs) (λ c. search needs) returns returns-2)

@@ -7,21 +7,6 @@ use borrow.Author.Needs.{needs}
 use Rattle.exports.proofs.zamgulekt_step_at.Statement.{statement}
 use Rattle.exports.proofs.zamgulekt_step_at.Tie as tie
 
-step-at-requires : tie.Need-step-at-requires
-step-at-requires c κs = search needs
-
-enum-known-answer : tie.Need-enum-known-answer
-enum-known-answer c = search needs
-
-cast-t10 : tie.Need-cast-t10
-cast-t10 c = search needs
-
-enum-told : tie.Need-enum-told
-enum-told c = search needs
-
-enum-known-answer-2 : tie.Need-enum-known-answer-2
-enum-known-answer-2 c = search needs
-
 returns : tie.Need-returns
 unfolding steppedTold
 returns c =
@@ -47,11 +32,11 @@ pub zamgulekt-step-at-spec : {M : Type 1} → statement M
 zamgulekt-step-at-spec =
     tie.close
     (tie.spec
-    step-at-requires
-    enum-known-answer
-    cast-t10
-    enum-told
-    enum-known-answer-2
+    (λ c κs. search needs)
+    (λ c. search needs)
+    (λ c. search needs)
+    (λ c. search needs)
+    (λ c. search needs)
     returns
     returns-2
     returns-3)

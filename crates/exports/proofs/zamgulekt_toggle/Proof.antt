@@ -5,21 +5,6 @@ use borrow.Author.Needs.{needs}
 use Rattle.exports.proofs.zamgulekt_toggle.Statement.{statement}
 use Rattle.exports.proofs.zamgulekt_toggle.Tie as tie
 
-filter-in-requires : tie.Need-filter-in-requires
-filter-in-requires c κs = search needs
-
-toggle-requires : tie.Need-toggle-requires
-toggle-requires c κs = search needs
-
-put-made-requires : tie.Need-put-made-requires
-put-made-requires c κs = search needs
-
-same-length : tie.Need-same-length
-same-length c = search needs
-
-same-length-2 : tie.Need-same-length-2
-same-length-2 c = search needs
-
 returns : tie.Need-returns
 returns c =
     let t = c .before .before .before .before .before in
@@ -35,9 +20,9 @@ pub zamgulekt-toggle-spec : {M : Type 1} → statement M
 zamgulekt-toggle-spec =
     tie.close
     (tie.spec
-    filter-in-requires
-    toggle-requires
-    put-made-requires
-    same-length
-    same-length-2
+    (λ c κs. search needs)
+    (λ c κs. search needs)
+    (λ c κs. search needs)
+    (λ c. search needs)
+    (λ c. search needs)
     returns)

@@ -6,21 +6,6 @@ use borrow.Author.Needs.{needs}
 use Rattle.exports.proofs.zamgulekt_write.Statement.{statement}
 use Rattle.exports.proofs.zamgulekt_write.Tie as tie
 
-filter-in-requires : tie.Need-filter-in-requires
-filter-in-requires c κs = search needs
-
-write-requires : tie.Need-write-requires
-write-requires c κs = search needs
-
-enum-known-len : tie.Need-enum-known-len
-enum-known-len c = search needs
-
-enum-known-r : tie.Need-enum-known-r
-enum-known-r c = search needs
-
-same-length : tie.Need-same-length
-same-length c = search needs
-
 returns : tie.Need-returns
 unfolding writeTold
 returns c =
@@ -30,9 +15,6 @@ returns c =
       keeps = rw (sym (t .before .before .filter-in .ensures)) (t .write .ensures);
       tells = given (ap writeTold (c .before .len .given .1));
     }
-
-same-length-2 : tie.Need-same-length-2
-same-length-2 c = search needs
 
 returns-2 : tie.Need-returns-2
 unfolding writeTold
@@ -48,11 +30,11 @@ pub zamgulekt-write-spec : {M : Type 1} → statement M
 zamgulekt-write-spec =
     tie.close
     (tie.spec
-    filter-in-requires
-    write-requires
-    enum-known-len
-    enum-known-r
-    same-length
+    (λ c κs. search needs)
+    (λ c κs. search needs)
+    (λ c. search needs)
+    (λ c. search needs)
+    (λ c. search needs)
     returns
-    same-length-2
+    (λ c. search needs)
     returns-2)

@@ -5,15 +5,6 @@ use Rattle.figures.proofs.Asked.{counts-fit, figures-are}
 use Rattle.figures.proofs.figures_of.Statement.{statement}
 use Rattle.figures.proofs.figures_of.Tie as tie
 
-single-for-requires : tie.Need-single-for-requires
-single-for-requires c κs = search needs
-
-single-for-requires-2 : tie.Need-single-for-requires-2
-single-for-requires-2 c κs = search needs
-
-pair-for-requires : tie.Need-pair-for-requires
-pair-for-requires c κs = search needs
-
 overlap-requires : tie.Need-overlap-requires
 overlap-requires c κs =
     let k = c .before .before in
@@ -37,4 +28,4 @@ returns c =
 pub figures-of-spec : {M : Type 1} → statement M
 figures-of-spec =
     tie.close
-    (tie.spec single-for-requires single-for-requires-2 pair-for-requires overlap-requires returns)
+    (tie.spec (λ c κs. search needs) (λ c κs. search needs) (λ c κs. search needs) overlap-requires returns)

@@ -5,17 +5,8 @@ use Rattle.figures.specs.Figures.{limitedIn}
 use Rattle.figures.proofs.limited_in.Statement.{statement}
 use Rattle.figures.proofs.limited_in.Tie as tie
 
-enum-known-answer : tie.Need-enum-known-answer
-enum-known-answer c = search needs
-
-enum-told : tie.Need-enum-told
-enum-told c = search needs
-
-returns : tie.Need-returns
-returns c = search needs
-
 returns-2 : tie.Need-returns-2
 returns-2 c = sym (ap limitedIn (c .enum-told .given .1))
 
 pub limited-in-spec : {M : Type 1} → statement M
-limited-in-spec = tie.close (tie.spec enum-known-answer enum-told returns returns-2)
+limited-in-spec = tie.close (tie.spec (λ c. search needs) (λ c. search needs) (λ c. search needs) returns-2)

@@ -5,25 +5,13 @@ use Rattle.sets.specs.Text.{overlap}
 use Rattle.figures.proofs.overlap.Statement.{statement}
 use Rattle.figures.proofs.overlap.Tie as tie
 
-add-all : tie.Need-add-all
-add-all c = search needs
-
 returns : tie.Need-returns
 unfolding overlap
 returns c = rw (eq-eqb _ _ (c .if1 .taken))
-
-sub-result : tie.Need-sub-result
-sub-result c = search needs
-
-mul-result : tie.Need-mul-result
-mul-result c = search needs
-
-div-result : tie.Need-div-result
-div-result c = search needs
 
 returns-2 : tie.Need-returns-2
 unfolding overlap
 returns-2 c = rw (ne-eqb _ _ (c .if1 .left))
 
 pub overlap-spec : {M : Type 1} → statement M
-overlap-spec = tie.close (tie.spec add-all returns sub-result mul-result div-result returns-2)
+overlap-spec = tie.close (tie.spec (λ c. search needs) returns (λ c. search needs) (λ c. search needs) (λ c. search needs) returns-2)

@@ -5,21 +5,6 @@ use Rattle.figures.specs.Figures.{countIn, limitedIn, pairFor}
 use Rattle.figures.proofs.pair_for.Statement.{statement}
 use Rattle.figures.proofs.pair_for.Tie as tie
 
-exact-difference-requires : tie.Need-exact-difference-requires
-exact-difference-requires c κs = search needs
-
-count-in-requires : tie.Need-count-in-requires
-count-in-requires c κs = search needs
-
-limited-difference-requires : tie.Need-limited-difference-requires
-limited-difference-requires c κs = search needs
-
-limited-in-requires : tie.Need-limited-in-requires
-limited-in-requires c κs = search needs
-
-cmp-masked-requires : tie.Need-cmp-masked-requires
-cmp-masked-requires c κs = search needs
-
 returns : tie.Need-returns
 unfolding pairFor
 returns c =
@@ -34,9 +19,9 @@ pub pair-for-spec : {M : Type 1} → statement M
 pair-for-spec =
     tie.close
     (tie.spec
-    exact-difference-requires
-    count-in-requires
-    limited-difference-requires
-    limited-in-requires
-    cmp-masked-requires
+    (λ c κs. search needs)
+    (λ c κs. search needs)
+    (λ c κs. search needs)
+    (λ c κs. search needs)
+    (λ c κs. search needs)
     returns)

@@ -9,14 +9,5 @@ use Rattle.judge.proofs.all_below.Tie as tie
 returns : tie.Need-returns
 returns c = sym (below-all _ (c .before .before .args .list .now) (λ i _. omega (arith, c .before .shared-slice-known .given i)))
 
-cast-cells-below : tie.Need-cast-cells-below
-cast-cells-below c = search needs
-
-cells-below-requires : tie.Need-cells-below-requires
-cells-below-requires c κs = search needs
-
-returns-2 : tie.Need-returns-2
-returns-2 c = search needs
-
 pub all-below-spec : {M : Type 1} → statement M
-all-below-spec = tie.close (tie.spec returns cast-cells-below cells-below-requires returns-2)
+all-below-spec = tie.close (tie.spec returns (λ c. search needs) (λ c κs. search needs) (λ c. search needs))

@@ -6,45 +6,29 @@ use borrow.Author.Needs.{needs}
 use Rattle.judge.proofs.areas.Statement.{statement}
 use Rattle.judge.proofs.areas.Tie as tie
 
-sizes-of-requires : tie.Need-sizes-of-requires
-sizes-of-requires c κs = search needs
-
-enum-known-s : tie.Need-enum-known-s
-enum-known-s c = search needs
-
-has-room-requires : tie.Need-has-room-requires
-has-room-requires c κs = search needs
-
 returns : tie.Need-returns
 returns c =
-    let k = c .before .before .before .before in
-    let a = k .before .before .args in
-    areas-short (a .config) (a .top) (a .blocks) (c .before .before .before .s .given .0 .0) (sym (k .before .sizes-of .ensures) ∙ c .before .before .before .s .given .1)
-    (sym (not-true (c .before .has-room .result) (c .if1 .taken)) ∙ c .before .has-room .ensures)
-
-enum-known-r : tie.Need-enum-known-r
-enum-known-r c = search needs
+    let k = c .before .before .before in
+    areas-short _ _ _ _ (sym (k .before .before .sizes-of .ensures) ∙ k .s .given .1)
+    (sym (not-true _ (c .if1 .taken)) ∙ c .before .has-room .ensures)
 
 returns-2 : tie.Need-returns-2
 returns-2 c =
-    let k = c .before .before .before .before in
-    let a = k .before .before .args in
-    areas-fit (a .config) (a .top) (a .blocks) (c .before .before .before .s .given .0 .0) (sym (k .before .sizes-of .ensures) ∙ c .before .before .before .s .given .1)
-    (sym (not-false (c .before .has-room .result) (c .if1 .left)) ∙ c .before .has-room .ensures)
+    let k = c .before .before .before in
+    areas-fit _ _ _ _ (sym (k .before .before .sizes-of .ensures) ∙ k .s .given .1)
+    (sym (not-false _ (c .if1 .left)) ∙ c .before .has-room .ensures)
 
 returns-3 : tie.Need-returns-3
-returns-3 c =
-    let a = c .before .before .before .before .args in
-    areas-unknown (a .config) (a .top) (a .blocks) (c .before .r .given .0 .0) (sym (c .before .before .before .sizes-of .ensures) ∙ c .before .r .given .1)
+returns-3 c = areas-unknown _ _ _ _ (sym (c .before .before .before .sizes-of .ensures) ∙ c .before .r .given .1)
 
 pub areas-spec : {M : Type 1} → statement M
 areas-spec =
     tie.close
     (tie.spec
-    sizes-of-requires
-    enum-known-s
-    has-room-requires
+    (λ c κs. search needs)
+    (λ c. search needs)
+    (λ c κs. search needs)
     returns
-    enum-known-r
+    (λ c. search needs)
     returns-2
     returns-3)

@@ -6,47 +6,27 @@ use borrow.Author.Needs.{needs}
 use Rattle.judge.proofs.bits_fit.Statement.{statement}
 use Rattle.judge.proofs.bits_fit.Tie as tie
 
-into-index-requires : tie.Need-into-index-requires
-into-index-requires c κs = search needs
-
 returns : tie.Need-returns
 returns c = λ p a b. absurd (omega arith)
 
-mul-first : tie.Need-mul-first
-mul-first c = search needs
-
-shared-slice-read-first : tie.Need-shared-slice-read-first
-shared-slice-read-first c = search needs
-
-into-bit-requires : tie.Need-into-bit-requires
-into-bit-requires c κs = search needs
-
-shr-first : tie.Need-shr-first
-shr-first c = search needs
-
-add-or-blocks : tie.Need-add-or-blocks
-add-or-blocks c = search needs
-
-or-blocks-requires : tie.Need-or-blocks-requires
-or-blocks-requires c κs = search needs
-
 returns-2 : tie.Need-returns-2
 returns-2 c =
-    let s = c .before .before .before .before .before .before in
-    bits-tell (s .args .blocks .now) (s .args .boundary) (c .before .before .before .before .into-index .result) (c .before .into-bit .result)
-    (c .before .before .before .before .into-index .ensures) (c .before .into-bit .ensures) (λ i. c .before .before .shared-slice-known2 .given i .fits)
-    (c .before .before .before .if1 .left) (c .or-blocks .ensures) _ refl
+    let s = c .before .before in
+    let k = s .before .before in
+    bits-tell (k .before .before .args .blocks .now) _ _ _
+    (k .into-index .ensures) (c .before .into-bit .ensures) (λ i. s .shared-slice-known2 .given i .fits)
+    (s .before .if1 .left) (c .or-blocks .ensures) _ refl
 
 pub bits-fit-spec : {M : Type 1} → statement M
 bits-fit-spec =
     tie.close
     (tie.spec
-    into-index-requires
+    (λ c κs. search needs)
     returns
-    mul-first
-    shared-slice-read-first
-    into-bit-requires
-    shr-first
-    add-or-blocks
-    or-blocks-requires
+    (λ c. search needs)
+    (λ c. search needs)
+    (λ c κs. search needs)
+    (λ c. search needs)
+    (λ c. search needs)
+    (λ c κs. search needs)
     returns-2)

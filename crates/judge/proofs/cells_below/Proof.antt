@@ -15,18 +15,6 @@ abbrev μ-loop : tie.MeasureT-loop
 loop-holds : tie.Need-loop-holds Inv-loop μ-loop
 loop-holds c = ask-start _ _
 
-mul-above : tie.Need-mul-above Inv-loop μ-loop
-mul-above c = omega arith
-
-shared-slice-read-above : tie.Need-shared-slice-read-above Inv-loop μ-loop
-shared-slice-read-above c = omega arith
-
-add-i : tie.Need-add-i Inv-loop μ-loop
-add-i c = omega arith
-
-loop-less : tie.Need-loop-less Inv-loop μ-loop
-loop-less c = omega arith
-
 loop-again : tie.Need-loop-again Inv-loop μ-loop
 loop-again c = ask-turn (c .before .before .loop .inv) (c .before .loop-test .taken)
 
@@ -40,9 +28,9 @@ cells-below-spec =
     Inv-loop
     μ-loop
     loop-holds
-    mul-above
-    shared-slice-read-above
-    add-i
-    loop-less
+    (λ c. omega arith)
+    (λ c. omega arith)
+    (λ c. omega arith)
+    (λ c. omega arith)
     loop-again
     returns)

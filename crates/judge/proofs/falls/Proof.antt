@@ -15,30 +15,17 @@ abbrev μ-loop : tie.MeasureT-loop
 loop-holds : tie.Need-loop-holds Inv-loop μ-loop
 loop-holds c = fall-start _ _ _
 
-mul-into-usize : tie.Need-mul-into-usize Inv-loop μ-loop
-mul-into-usize c = omega arith
-
-shared-slice-read-into-usize : tie.Need-shared-slice-read-into-usize Inv-loop μ-loop
-shared-slice-read-into-usize c = omega arith
-
-into-usize-requires : tie.Need-into-usize-requires Inv-loop μ-loop
-into-usize-requires c κs = search needs
-
 returns : tie.Need-returns Inv-loop μ-loop
 returns c =
-    let k = c .before .before .before .before in
-    fall-not (k .before .before .pre) (c .before .before .before .loop-test .taken) (k .loop .inv) (c .before .into-usize .result) (c .before .into-usize .ensures) (c .if1 .taken)
-
-add-i : tie.Need-add-i Inv-loop μ-loop
-add-i c = omega arith
-
-loop-less : tie.Need-loop-less Inv-loop μ-loop
-loop-less c = omega arith
+    let t = c .before .before .before in
+    fall-not (t .before .before .before .pre) (t .loop-test .taken) (t .before .loop .inv) _
+    (c .before .into-usize .ensures) (c .if1 .taken)
 
 loop-again : tie.Need-loop-again Inv-loop μ-loop
 loop-again c =
-    let k = c .before .before .before .before in
-    fall-turn (k .before .before .pre) (c .before .before .before .loop-test .taken) (k .loop .inv) (c .before .into-usize .result) (c .before .into-usize .ensures) (c .if1 .left)
+    let t = c .before .before .before in
+    fall-turn (t .before .before .before .pre) (t .loop-test .taken) (t .before .loop .inv) _
+    (c .before .into-usize .ensures) (c .if1 .left)
 
 returns-2 : tie.Need-returns-2 Inv-loop μ-loop
 returns-2 c = fall-end (c .loop-test .left) (c .before .loop .inv)
@@ -50,11 +37,11 @@ falls-spec =
     Inv-loop
     μ-loop
     loop-holds
-    mul-into-usize
-    shared-slice-read-into-usize
-    into-usize-requires
+    (λ c. omega arith)
+    (λ c. omega arith)
+    (λ c κs. search needs)
     returns
-    add-i
-    loop-less
+    (λ c. omega arith)
+    (λ c. omega arith)
     loop-again
     returns-2)

@@ -6,47 +6,33 @@ use borrow.Author.Needs.{needs}
 use Rattle.judge.proofs.filter.Statement.{statement}
 use Rattle.judge.proofs.filter.Tie as tie
 
-areas-requires : tie.Need-areas-requires
-areas-requires c κs = search needs
-
-enum-known-s : tie.Need-enum-known-s
-enum-known-s c = search needs
-
 is-filter-requires : tie.Need-is-filter-requires
 is-filter-requires c κs =
-    let a = c .before .before .before .before .before .before .args in
-    areas-room (a .config) (a .top .now) (a .blocks .now) (c .before .s .given .0 .0) (sym (c .before .before .before .areas .ensures) ∙ c .before .s .given .1)
+    areas-room _ _ _ _ (sym (c .before .before .before .areas .ensures) ∙ c .before .s .given .1)
 
 returns : tie.Need-returns
 returns c =
-    let a = c .before .before .before .before .before .before .before .before .args in
     let k = c .before .before .before in
-    filter-unsound (a .config) (a .tally) (a .top .now) (a .blocks .now) (k .s .given .0 .0) (sym (k .before .before .areas .ensures) ∙ k .s .given .1)
-    (sym (not-true (c .before .is-filter .result) (c .if1 .taken)) ∙ c .before .is-filter .ensures)
-
-enum-known-r : tie.Need-enum-known-r
-enum-known-r c = search needs
+    filter-unsound _ _ _ _ _ (sym (k .before .before .areas .ensures) ∙ k .s .given .1)
+    (sym (not-true _ (c .if1 .taken)) ∙ c .before .is-filter .ensures)
 
 returns-2 : tie.Need-returns-2
 returns-2 c =
-    let a = c .before .before .before .before .before .before .before .before .args in
     let k = c .before .before .before in
-    filter-fits (a .config) (a .tally) (a .top .now) (a .blocks .now) (k .s .given .0 .0) (sym (k .before .before .areas .ensures) ∙ k .s .given .1)
-    (sym (not-false (c .before .is-filter .result) (c .if1 .left)) ∙ c .before .is-filter .ensures)
+    filter-fits _ _ _ _ _ (sym (k .before .before .areas .ensures) ∙ k .s .given .1)
+    (sym (not-false _ (c .if1 .left)) ∙ c .before .is-filter .ensures)
 
 returns-3 : tie.Need-returns-3
-returns-3 c =
-    let a = c .before .before .before .before .before .before .args in
-    filter-no-areas (a .config) (a .tally) (a .top .now) (a .blocks .now) (c .before .r .given .0 .0) (sym (c .before .before .before .areas .ensures) ∙ c .before .r .given .1)
+returns-3 c = filter-no-areas _ _ _ _ _ (sym (c .before .before .before .areas .ensures) ∙ c .before .r .given .1)
 
 pub filter-spec : {M : Type 1} → statement M
 filter-spec =
     tie.close
     (tie.spec
-    areas-requires
-    enum-known-s
+    (λ c κs. search needs)
+    (λ c. search needs)
     is-filter-requires
     returns
-    enum-known-r
+    (λ c. search needs)
     returns-2
     returns-3)

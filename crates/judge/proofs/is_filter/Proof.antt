@@ -5,57 +5,38 @@ use borrow.Author.Needs.{needs}
 use Rattle.judge.proofs.is_filter.Statement.{statement}
 use Rattle.judge.proofs.is_filter.Tie as tie
 
-mul-top-fits : tie.Need-mul-top-fits
-mul-top-fits c = search needs
-
-top-fits-requires : tie.Need-top-fits-requires
-top-fits-requires c κs = search needs
-
 returns : tie.Need-returns
 returns c =
     let s = c .before .before .before .before in
-    no-top (s .args .tally .count) (s .args .tally .boundary) (s .pre)
-    (tells-not (c .before .top-fits .result) (not-true (c .before .top-fits .result) (c .if1 .taken)) (c .before .top-fits .ensures))
-
-sub-last : tie.Need-sub-last
-sub-last c = search needs
-
-mul-into-usize : tie.Need-mul-into-usize
-mul-into-usize c = search needs
-
-shared-slice-read-into-usize : tie.Need-shared-slice-read-into-usize
-shared-slice-read-into-usize c = search needs
-
-into-usize-requires : tie.Need-into-usize-requires
-into-usize-requires c κs = search needs
+    no-top _ _ (s .pre)
+    (tells-not (c .before .top-fits .result) (not-true _ (c .if1 .taken)) (c .before .top-fits .ensures))
 
 returns-2 : tie.Need-returns-2
 returns-2 c =
-    let s = c .before .before .before .before .before .before .before in
-    no-edge (s .args .tally .count) (s .args .tally .boundary) (s .pre) (c .before .into-usize .result) (c .before .into-usize .ensures) (c .if2 .taken)
-
-bits-fit-requires : tie.Need-bits-fit-requires
-bits-fit-requires c κs = search needs
+    let k = c .before .before .before .before in
+    let s = k .before .before .before in
+    no-edge _ _ (s .pre) _ (c .before .into-usize .ensures) (c .if2 .taken)
 
 returns-3 : tie.Need-returns-3
 returns-3 c =
-    let s = c .before .before .before .before .before .before .before .before in
-    let t = c .before .before .before .before .before in
-    by-bits (s .args .tally .count) (s .args .tally .boundary) (s .pre) (c .before .before .into-usize .result) (c .before .before .into-usize .ensures)
-    (tells-so (t .top-fits .result) (not-false (t .top-fits .result) (c .before .before .before .before .if1 .left)) (t .top-fits .ensures))
-    (c .before .if2 .left) (λ i. t .before .shared-slice-known2 .given i .fits) (c .bits-fit .result) (c .bits-fit .ensures)
+    let u = c .before .before in
+    let k = u .before .before in
+    let s = k .before .before in
+    by-bits _ _ (s .before .before .pre) _ (u .into-usize .ensures)
+    (tells-so (k .before .top-fits .result) (not-false _ (k .if1 .left)) (k .before .top-fits .ensures))
+    (c .before .if2 .left) (λ i. s .shared-slice-known2 .given i .fits) _ (c .bits-fit .ensures)
 
 pub is-filter-spec : {M : Type 1} → statement M
 is-filter-spec =
     tie.close
     (tie.spec
-    mul-top-fits
-    top-fits-requires
+    (λ c. search needs)
+    (λ c κs. search needs)
     returns
-    sub-last
-    mul-into-usize
-    shared-slice-read-into-usize
-    into-usize-requires
+    (λ c. search needs)
+    (λ c. search needs)
+    (λ c. search needs)
+    (λ c κs. search needs)
     returns-2
-    bits-fit-requires
+    (λ c κs. search needs)
     returns-3)

@@ -5,19 +5,16 @@ use Rattle.judge.proofs.mask.Tie as tie
 use Rattle.judge.proofs.Verdicts.{mask-none, mask-long, mask-past, mask-fits}
 
 returns : tie.Need-returns
-returns c = mask-none (c .before .args .mask) (c .before .args .size) (c .if1 .taken)
+returns c = mask-none _ _ (c .if1 .taken)
 
 returns-2 : tie.Need-returns-2
-returns-2 c = mask-long (c .before .before .args .mask) (c .before .before .args .size) (c .before .if1 .left) (c .if2 .taken)
-
-shr-if3 : tie.Need-shr-if3
-shr-if3 c = search needs
+returns-2 c = mask-long _ _ (c .before .if1 .left) (c .if2 .taken)
 
 returns-3 : tie.Need-returns-3
-returns-3 c = mask-past (c .before .before .before .args .mask) (c .before .before .before .args .size) (c .before .before .if1 .left) (c .before .if2 .left) (c .if3 .taken)
+returns-3 c = mask-past _ _ (c .before .before .if1 .left) (c .before .if2 .left) (c .if3 .taken)
 
 returns-4 : tie.Need-returns-4
-returns-4 c = mask-fits (c .before .before .before .args .mask) (c .before .before .before .args .size) (c .before .before .if1 .left) (c .before .if2 .left) (c .if3 .left)
+returns-4 c = mask-fits _ _ (c .before .before .if1 .left) (c .before .if2 .left) (c .if3 .left)
 
 pub mask-spec : {M : Type 1} → statement M
-mask-spec = tie.close (tie.spec returns returns-2 shr-if3 returns-3 returns-4)
+mask-spec = tie.close (tie.spec returns returns-2 (λ c. search needs) returns-3 returns-4)

@@ -6,24 +6,15 @@ use borrow.Author.Needs.{needs}
 use Rattle.judge.proofs.top_fits.Statement.{statement}
 use Rattle.judge.proofs.top_fits.Tie as tie
 
-returns : tie.Need-returns
-returns c = search needs
-
-falls-requires : tie.Need-falls-requires
-falls-requires c κs = search needs
-
 returns-2 : tie.Need-returns-2
-returns-2 c = λ F. tells-not (c .before .falls .result) (not-true (c .before .falls .result) (c .if2 .taken)) (c .before .falls .ensures) (F .falling)
-
-or-cells-requires : tie.Need-or-cells-requires
-or-cells-requires c κs = search needs
+returns-2 c = λ F. tells-not (c .before .falls .result) (not-true _ (c .if2 .taken)) (c .before .falls .ensures) (F .falling)
 
 returns-3 : tie.Need-returns-3
 returns-3 c =
-    let s = c .before .before .before .before .before in
-    top-tells (s .args .limit) (s .args .top .now) (s .args .count) (c .before .before .before .if1 .left)
-    (tells-so (c .before .before .falls .result) (not-false (c .before .before .falls .result) (c .before .if2 .left)) (c .before .before .falls .ensures))
+    let f = c .before .before in
+    top-tells _ _ _ (f .before .if1 .left)
+    (tells-so (f .falls .result) (not-false _ (c .before .if2 .left)) (f .falls .ensures))
     (c .or-cells .ensures) _ refl
 
 pub top-fits-spec : {M : Type 1} → statement M
-top-fits-spec = tie.close (tie.spec returns falls-requires returns-2 or-cells-requires returns-3)
+top-fits-spec = tie.close (tie.spec (λ c. search needs) (λ c κs. search needs) returns-2 (λ c κs. search needs) returns-3)

@@ -1,21 +1,11 @@
 -- `judge::two_filters` meets its contract: each return is what its tests told. Assumes nothing.
 use mathlib.Core.Path.{_≡_, refl, sym, _∙_}
-use mathlib.Core.Bool.{Bool, true, false}
-use mathlib.Core.List.{List}
-use Prim.Native.Nat.{ℕ}
-use lib.Dec.{eqb}
-use lib.ListN.{length}
+use mathlib.Core.Bool.{Bool, true, false, not}
 use borrow.Author.Tests.{not-true, not-false, eq-eqb, ne-eqb}
-use Rattle.sets.specs.Filter.{isFilter}
-use Rattle.sets.specs.Refusals.{answer}
-use Rattle.sizes.specs.Sizes.{sizesOf, refusal}
-use Rattle.sizes.specs.declared.Sizes.{Sizes}
-use Rattle.sizes.specs.declared.SizesAnswer.the-variants.{Known, Refused}
+use Rattle.sizes.specs.Sizes.{sizesOf}
+use Rattle.sizes.specs.declared.SizesAnswer.the-variants.{Known}
 use Rattle.sizes.proofs.Laws.{known-of}
-use Rattle.bitvec.specs.Parts.{Room}
-use Rattle.bitvec.specs.declared.Tally.{Tally}
-use Rattle.judge.specs.Judging.{roomy, twoOf}
-use Rattle.judge.proofs.Verdicts.{chain, room-told, two-first, two-second, two-rest}
+use Rattle.judge.proofs.Verdicts.{room-told, two-first, two-second, two-rest}
 use borrow.Author.Needs.{needs}
 use Rattle.judge.proofs.two_filters.Statement.{statement}
 use Rattle.judge.proofs.two_filters.Tie as tie
@@ -25,196 +15,167 @@ use Rattle.judge.proofs.has_room.Reads as has-room-reads
 use Rattle.judge.proofs.is_filter.Reads as is-filter-reads
 use Rattle.sizes.proofs.sizes_of.Reads as sizes-of-reads
 
+abbrev claims : lts.Claims
+claims = (
+  sizes-of-reads.Asked,
+  sizes-of-reads.Learnt,
+  has-room-reads.Asked,
+  has-room-reads.Learnt,
+  is-filter-reads.Asked,
+  is-filter-reads.Learnt,
+)
+
 -- the place where both configurations are known
-abbrev Two : Type 0
-Two =
-    lts.After-known-told2
-    (sizes-of-reads.Asked, sizes-of-reads.Learnt, has-room-reads.Asked, has-room-reads.Learnt, is-filter-reads.Asked, is-filter-reads.Learnt) reads.Pre reads.Post
+module _ (k : lts.After-known-told2 claims reads.Pre reads.Post) where
+  first :
+      let j = k .before .before .before .before .before in
+      let i = j .before .before .before in
+      let a = i .before .before .before .before in
+      sizesOf (a .args .config) ≡ Known (j .s .given .0 .0)
+  first =
+      let j = k .before .before .before .before .before in
+      sym (j .before .before .sizes-of .ensures) ∙ j .s .given .1
 
-module _ (k : Two) where
-  abbrev config : ℕ
-  config = k .before .before .before .before .before .before .before .before .before .before .before .before .args .config
-
-  abbrev config2 : ℕ
-  config2 = k .before .before .before .before .before .before .before .before .before .before .before .before .args .config2
-
-  abbrev x : ℕ
-  x = k .before .before .before .before .before .before .before .before .before .before .before .before .args .to-top
-
-  abbrev y : ℕ
-  y = k .before .before .before .before .before .before .before .before .before .before .before .before .args .to-blocks
-
-  abbrev top : List ℕ
-  top = k .before .before .before .before .before .before .before .before .before .before .before .before .args .top .now
-
-  abbrev bits : List ℕ
-  bits = k .before .before .before .before .before .before .before .before .before .before .before .before .args .blocks .now
-
-  abbrev top2 : List ℕ
-  top2 = k .before .before .before .before .before .before .before .before .before .before .before .before .args .top2 .now
-
-  abbrev bits2 : List ℕ
-  bits2 = k .before .before .before .before .before .before .before .before .before .before .before .before .args .blocks2 .now
-
-  abbrev tally : Tally
-  tally = k .before .before .before .before .before .before .before .before .before .before .before .before .args .tally
-
-  abbrev tally2 : Tally
-  tally2 = k .before .before .before .before .before .before .before .before .before .before .before .before .args .tally2
-
-  abbrev s : Sizes
-  s = k .before .before .before .before .before .s .given .0 .0
-
-  abbrev o : Sizes
-  o = k .before .o .given .0 .0
-
-  first : sizesOf config ≡ Known s
-  first = sym (k .before .before .before .before .before .before .before .sizes-of .ensures) ∙ k .before .before .before .before .before .s .given .1
-
-  second : sizesOf config2 ≡ Known o
+  second :
+      let j = k .before .before .before .before in
+      let i = j .before .before .before .before in
+      let a = i .before .before .before .before in
+      sizesOf (a .args .config2) ≡ Known (k .before .o .given .0 .0)
   second = sym (k .before .before .before .sizes-of2 .ensures) ∙ k .before .o .given .1
 
-  rest : (p r w v z e : Bool)
-      → p ≡ roomy s (length top) (length bits)
-      → r ≡ roomy o (length top2) (length bits2)
-      → w ≡ roomy s x y
-      → v ≡ isFilter (s .top) (s .blocks) top bits (tally .count) (tally .boundary)
-      → z ≡ isFilter (o .top) (o .blocks) top2 bits2 (tally2 .count) (tally2 .boundary)
-      → e ≡ eqb config config2
-      → answer (chain true true p r w v z e) (λ i. Refused (refusal i)) (Known s) ≡ twoOf config tally top bits config2 tally2 top2 bits2 x y
-  rest = two-rest config tally top bits config2 tally2 top2 bits2 x y s o first second
+-- what a test told of what it answers
+held : {r b : Bool} → r ≡ b → not r ≡ false → true ≡ b
+held {r} e h = sym (not-false r h) ∙ e
 
-  room : true ≡ roomy s (length top) (length bits) → Room (s .top) (s .blocks) top bits
-  room = room-told config s top bits (known-of config s first .1)
-
-  room2 : true ≡ roomy o (length top2) (length bits2) → Room (o .top) (o .blocks) top2 bits2
-  room2 = room-told config2 o top2 bits2 (known-of config2 o second .1)
-
-sizes-of-requires : tie.Need-sizes-of-requires
-sizes-of-requires c κs = search needs
-
-enum-known-s : tie.Need-enum-known-s
-enum-known-s c = search needs
-
-enum-told : tie.Need-enum-told
-enum-told c = search needs
+failed : {r b : Bool} → r ≡ b → not r ≡ true → false ≡ b
+failed {r} e h = sym (not-true r h) ∙ e
 
 returns : tie.Need-returns
 returns c =
-    let a = c .before .before .before .before .before .before .before .args in
-    two-first (a .config) (a .tally) (a .top .now) (a .blocks .now) (a .config2) (a .tally2) (a .top2 .now) (a .blocks2 .now) (a .to-top) (a .to-blocks) _ (sym (c .before .before .sizes-of .ensures) ∙ c .enum-told .given .1)
-
-sizes-of-requires-2 : tie.Need-sizes-of-requires-2
-sizes-of-requires-2 c κs = search needs
-
-enum-known-o : tie.Need-enum-known-o
-enum-known-o c = search needs
-
-enum-told-2 : tie.Need-enum-told-2
-enum-told-2 c = search needs
+    two-first _ _ _ _ _ _ _ _ _ _ _ (sym (c .before .before .sizes-of .ensures) ∙ c .enum-told .given .1)
 
 returns-2 : tie.Need-returns-2
 returns-2 c =
-    let a = c .before .before .before .before .before .before .before .before .before .before .before .args in
     let k = c .before .before .before .before in
-    two-second (a .config) (a .tally) (a .top .now) (a .blocks .now) (a .config2) (a .tally2) (a .top2 .now) (a .blocks2 .now) (a .to-top) (a .to-blocks) (k .s .given .0 .0) (sym (k .before .before .sizes-of .ensures) ∙ k .s .given .1) _ (sym (c .before .before .sizes-of2 .ensures) ∙ c .enum-told2 .given .1)
-
-has-room-requires : tie.Need-has-room-requires
-has-room-requires c κs = search needs
+    two-second _ _ _ _ _ _ _ _ _ _ _ (sym (k .before .before .sizes-of .ensures) ∙ k .s .given .1) _
+    (sym (c .before .before .sizes-of2 .ensures) ∙ c .enum-told2 .given .1)
 
 returns-3 : tie.Need-returns-3
 returns-3 c =
-    rest (c .before .before) false _ _ _ _ _
-    (sym (not-true (c .before .has-room .result) (c .if1 .taken)) ∙ c .before .has-room .ensures)
+    let k = c .before .before in
+    two-rest _ _ _ _ _ _ _ _ _ _ _ _ (first k) (second k) false _ _ _ _ _
+    (failed (c .before .has-room .ensures) (c .if1 .taken))
     refl refl refl refl refl
-
-has-room-requires-2 : tie.Need-has-room-requires-2
-has-room-requires-2 c κs = search needs
 
 returns-4 : tie.Need-returns-4
 returns-4 c =
-    rest (c .before .before .before .before) true false _ _ _ _
-    (sym (not-false (c .before .before .before .has-room .result) (c .before .before .if1 .left)) ∙ c .before .before .before .has-room .ensures)
-    (sym (not-true (c .before .has-room2 .result) (c .if2 .taken)) ∙ c .before .has-room2 .ensures)
+    let p = c .before .before in
+    let k = p .before .before in
+    two-rest _ _ _ _ _ _ _ _ _ _ _ _ (first k) (second k) true false _ _ _ _
+    (held (p .before .has-room .ensures) (p .if1 .left))
+    (failed (c .before .has-room2 .ensures) (c .if2 .taken))
     refl refl refl refl
-
-has-room-requires-3 : tie.Need-has-room-requires-3
-has-room-requires-3 c κs = search needs
 
 returns-5 : tie.Need-returns-5
 returns-5 c =
-    rest (c .before .before .before .before .before .before) true true false _ _ _
-    (sym (not-false (c .before .before .before .before .before .has-room .result) (c .before .before .before .before .if1 .left)) ∙ c .before .before .before .before .before .has-room .ensures)
-    (sym (not-false (c .before .before .before .has-room2 .result) (c .before .before .if2 .left)) ∙ c .before .before .before .has-room2 .ensures)
-    (sym (not-true (c .before .has-room3 .result) (c .if3 .taken)) ∙ c .before .has-room3 .ensures)
+    let r = c .before .before in
+    let p = r .before .before in
+    let k = p .before .before in
+    two-rest _ _ _ _ _ _ _ _ _ _ _ _ (first k) (second k) true true false _ _ _
+    (held (p .before .has-room .ensures) (p .if1 .left))
+    (held (r .before .has-room2 .ensures) (r .if2 .left))
+    (failed (c .before .has-room3 .ensures) (c .if3 .taken))
     refl refl refl
 
 is-filter-requires : tie.Need-is-filter-requires
 is-filter-requires c κs =
-    room (c .before .before .before .before .before .before)
-    (sym (not-false (c .before .before .before .before .before .has-room .result) (c .before .before .before .before .if1 .left)) ∙ c .before .before .before .before .before .has-room .ensures)
+    let p = c .before .before .before .before in
+    let k = p .before .before in
+    room-told _ _ _ _ (known-of _ _ (first k) .1) (held (p .before .has-room .ensures) (p .if1 .left))
 
 returns-6 : tie.Need-returns-6
 returns-6 c =
-    rest (c .before .before .before .before .before .before .before .before) true true true false _ _
-    (sym (not-false (c .before .before .before .before .before .before .before .has-room .result) (c .before .before .before .before .before .before .if1 .left)) ∙ c .before .before .before .before .before .before .before .has-room .ensures)
-    (sym (not-false (c .before .before .before .before .before .has-room2 .result) (c .before .before .before .before .if2 .left)) ∙ c .before .before .before .before .before .has-room2 .ensures)
-    (sym (not-false (c .before .before .before .has-room3 .result) (c .before .before .if3 .left)) ∙ c .before .before .before .has-room3 .ensures)
-    (sym (not-true (c .before .is-filter .result) (c .if4 .taken)) ∙ c .before .is-filter .ensures)
+    let w = c .before .before in
+    let r = w .before .before in
+    let p = r .before .before in
+    let k = p .before .before in
+    two-rest _ _ _ _ _ _ _ _ _ _ _ _ (first k) (second k) true true true false _ _
+    (held (p .before .has-room .ensures) (p .if1 .left))
+    (held (r .before .has-room2 .ensures) (r .if2 .left))
+    (held (w .before .has-room3 .ensures) (w .if3 .left))
+    (failed (c .before .is-filter .ensures) (c .if4 .taken))
     refl refl
 
 is-filter-requires-2 : tie.Need-is-filter-requires-2
 is-filter-requires-2 c κs =
-    room2 (c .before .before .before .before .before .before .before .before)
-    (sym (not-false (c .before .before .before .before .before .has-room2 .result) (c .before .before .before .before .if2 .left)) ∙ c .before .before .before .before .before .has-room2 .ensures)
+    let r = c .before .before .before .before in
+    let k = r .before .before .before .before in
+    room-told _ _ _ _ (known-of _ _ (second k) .1) (held (r .before .has-room2 .ensures) (r .if2 .left))
 
 returns-7 : tie.Need-returns-7
 returns-7 c =
-    rest (c .before .before .before .before .before .before .before .before .before .before) true true true true false _
-    (sym (not-false (c .before .before .before .before .before .before .before .before .before .has-room .result) (c .before .before .before .before .before .before .before .before .if1 .left)) ∙ c .before .before .before .before .before .before .before .before .before .has-room .ensures)
-    (sym (not-false (c .before .before .before .before .before .before .before .has-room2 .result) (c .before .before .before .before .before .before .if2 .left)) ∙ c .before .before .before .before .before .before .before .has-room2 .ensures)
-    (sym (not-false (c .before .before .before .before .before .has-room3 .result) (c .before .before .before .before .if3 .left)) ∙ c .before .before .before .before .before .has-room3 .ensures)
-    (sym (not-false (c .before .before .before .is-filter .result) (c .before .before .if4 .left)) ∙ c .before .before .before .is-filter .ensures)
-    (sym (not-true (c .before .is-filter2 .result) (c .if5 .taken)) ∙ c .before .is-filter2 .ensures)
+    let v = c .before .before in
+    let w = v .before .before in
+    let r = w .before .before in
+    let p = r .before .before in
+    let k = p .before .before in
+    two-rest _ _ _ _ _ _ _ _ _ _ _ _ (first k) (second k) true true true true false _
+    (held (p .before .has-room .ensures) (p .if1 .left))
+    (held (r .before .has-room2 .ensures) (r .if2 .left))
+    (held (w .before .has-room3 .ensures) (w .if3 .left))
+    (held (v .before .is-filter .ensures) (v .if4 .left))
+    (failed (c .before .is-filter2 .ensures) (c .if5 .taken))
     refl
 
 returns-8 : tie.Need-returns-8
 returns-8 c =
-    rest (c .before .before .before .before .before .before .before .before .before .before .before) true true true true true false
-    (sym (not-false (c .before .before .before .before .before .before .before .before .before .before .has-room .result) (c .before .before .before .before .before .before .before .before .before .if1 .left)) ∙ c .before .before .before .before .before .before .before .before .before .before .has-room .ensures)
-    (sym (not-false (c .before .before .before .before .before .before .before .before .has-room2 .result) (c .before .before .before .before .before .before .before .if2 .left)) ∙ c .before .before .before .before .before .before .before .before .has-room2 .ensures)
-    (sym (not-false (c .before .before .before .before .before .before .has-room3 .result) (c .before .before .before .before .before .if3 .left)) ∙ c .before .before .before .before .before .before .has-room3 .ensures)
-    (sym (not-false (c .before .before .before .before .is-filter .result) (c .before .before .before .if4 .left)) ∙ c .before .before .before .before .is-filter .ensures)
-    (sym (not-false (c .before .before .is-filter2 .result) (c .before .if5 .left)) ∙ c .before .before .is-filter2 .ensures)
+    let z = c .before in
+    let v = z .before .before in
+    let w = v .before .before in
+    let r = w .before .before in
+    let p = r .before .before in
+    let k = p .before .before in
+    two-rest _ _ _ _ _ _ _ _ _ _ _ _ (first k) (second k) true true true true true false
+    (held (p .before .has-room .ensures) (p .if1 .left))
+    (held (r .before .has-room2 .ensures) (r .if2 .left))
+    (held (w .before .has-room3 .ensures) (w .if3 .left))
+    (held (v .before .is-filter .ensures) (v .if4 .left))
+    (held (z .before .is-filter2 .ensures) (z .if5 .left))
     (sym (ne-eqb _ _ (c .if6 .taken)))
 
 returns-9 : tie.Need-returns-9
 returns-9 c =
-    rest (c .before .before .before .before .before .before .before .before .before .before .before) true true true true true true
-    (sym (not-false (c .before .before .before .before .before .before .before .before .before .before .has-room .result) (c .before .before .before .before .before .before .before .before .before .if1 .left)) ∙ c .before .before .before .before .before .before .before .before .before .before .has-room .ensures)
-    (sym (not-false (c .before .before .before .before .before .before .before .before .has-room2 .result) (c .before .before .before .before .before .before .before .if2 .left)) ∙ c .before .before .before .before .before .before .before .before .has-room2 .ensures)
-    (sym (not-false (c .before .before .before .before .before .before .has-room3 .result) (c .before .before .before .before .before .if3 .left)) ∙ c .before .before .before .before .before .before .has-room3 .ensures)
-    (sym (not-false (c .before .before .before .before .is-filter .result) (c .before .before .before .if4 .left)) ∙ c .before .before .before .before .is-filter .ensures)
-    (sym (not-false (c .before .before .is-filter2 .result) (c .before .if5 .left)) ∙ c .before .before .is-filter2 .ensures)
+    let z = c .before in
+    let v = z .before .before in
+    let w = v .before .before in
+    let r = w .before .before in
+    let p = r .before .before in
+    let k = p .before .before in
+    two-rest _ _ _ _ _ _ _ _ _ _ _ _ (first k) (second k) true true true true true true
+    (held (p .before .has-room .ensures) (p .if1 .left))
+    (held (r .before .has-room2 .ensures) (r .if2 .left))
+    (held (w .before .has-room3 .ensures) (w .if3 .left))
+    (held (v .before .is-filter .ensures) (v .if4 .left))
+    (held (z .before .is-filter2 .ensures) (z .if5 .left))
     (sym (eq-eqb _ _ (c .if6 .left)))
 
 pub two-filters-spec : {M : Type 1} → statement M
 two-filters-spec =
     tie.close
     (tie.spec
-    sizes-of-requires
-    enum-known-s
-    enum-told
+    (λ c κs. search needs)
+    (λ c. search needs)
+    (λ c. search needs)
     returns
-    sizes-of-requires-2
-    enum-known-o
-    enum-told-2
+    (λ c κs. search needs)
+    (λ c. search needs)
+    (λ c. search needs)
     returns-2
-    has-room-requires
+    (λ c κs. search needs)
     returns-3
-    has-room-requires-2
+    (λ c κs. search needs)
     returns-4
-    has-room-requires-3
+    (λ c κs. search needs)
     returns-5
     is-filter-requires
     returns-6

@@ -5,13 +5,10 @@ use borrow.Author.Needs.{needs}
 use Rattle.judge_builder.proofs.areas.Statement.{statement}
 use Rattle.judge_builder.proofs.areas.Tie as tie
 
-areas-requires : tie.Need-areas-requires
-areas-requires c κs = search needs
-
 returns : tie.Need-returns
 returns c =
     let a = c .before .args in
     c .areas .ensures ∙ areas-half (a .config) (a .pending) (a .bits)
 
 pub areas-spec : {M : Type 1} → statement M
-areas-spec = tie.close (tie.spec areas-requires returns)
+areas-spec = tie.close (tie.spec (λ c κs. search needs) returns)

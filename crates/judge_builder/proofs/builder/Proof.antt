@@ -7,12 +7,6 @@ use borrow.Author.Needs.{needs}
 use Rattle.judge_builder.proofs.builder.Statement.{statement}
 use Rattle.judge_builder.proofs.builder.Tie as tie
 
-areas-requires : tie.Need-areas-requires
-areas-requires c κs = search needs
-
-enum-known-s : tie.Need-enum-known-s
-enum-known-s c = search needs
-
 is-builder-requires : tie.Need-is-builder-requires
 is-builder-requires c κs =
     let a = c .before .before .before .before .before .before .args in
@@ -24,9 +18,6 @@ returns c =
     let k = c .before .before .before in
     builder-rest (a .config) (a .stage) (a .pending .now) (a .bits .now) (k .s .given .0 .0) (sym (k .before .before .areas .ensures) ∙ k .s .given .1)
     false (sym (not-true (c .before .is-builder .result) (c .if1 .taken)) ∙ c .before .is-builder .ensures)
-
-enum-known-r : tie.Need-enum-known-r
-enum-known-r c = search needs
 
 returns-2 : tie.Need-returns-2
 returns-2 c =
@@ -44,10 +35,10 @@ pub builder-spec : {M : Type 1} → statement M
 builder-spec =
     tie.close
     (tie.spec
-    areas-requires
-    enum-known-s
+    (λ c κs. search needs)
+    (λ c. search needs)
     is-builder-requires
     returns
-    enum-known-r
+    (λ c. search needs)
     returns-2
     returns-3)

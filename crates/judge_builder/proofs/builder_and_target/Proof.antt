@@ -5,18 +5,6 @@ use borrow.Author.Needs.{needs}
 use Rattle.judge_builder.proofs.builder_and_target.Statement.{statement}
 use Rattle.judge_builder.proofs.builder_and_target.Tie as tie
 
-areas-requires : tie.Need-areas-requires
-areas-requires c κs = search needs
-
-enum-told : tie.Need-enum-told
-enum-told c = search needs
-
-builder-requires : tie.Need-builder-requires
-builder-requires c κs = search needs
-
-enum-known-r : tie.Need-enum-known-r
-enum-known-r c = search needs
-
 returns : tie.Need-returns
 returns c =
     let a = c .before .before .before .before .before .before .args in
@@ -30,4 +18,4 @@ returns-2 c =
 
 pub builder-and-target-spec : {M : Type 1} → statement M
 builder-and-target-spec =
-    tie.close (tie.spec areas-requires enum-told builder-requires enum-known-r returns returns-2)
+    tie.close (tie.spec (λ c κs. search needs) (λ c. search needs) (λ c κs. search needs) (λ c. search needs) returns returns-2)

@@ -8,16 +8,10 @@ use borrow.Author.Needs.{needs}
 use Rattle.judge_builder.proofs.is_builder.Statement.{statement}
 use Rattle.judge_builder.proofs.is_builder.Tie as tie
 
-mul-if1 : tie.Need-mul-if1
-mul-if1 c = search needs
-
 returns : tie.Need-returns
 returns c =
     let a = c .before .before .before .args in
     unsound (a .m) (a .k) (a .pending .now) (a .bits .now) (a .stage) (λ S. omega (arith, c .if1 .taken, S .few))
-
-mul-if2 : tie.Need-mul-if2
-mul-if2 c = search needs
 
 returns-2 : tie.Need-returns-2
 returns-2 c =
@@ -29,31 +23,16 @@ slice-aggregate-all-below c =
     let s = c .before .before .before .before .before .before in
     sym (length-take-le (s .args .stage .count) (s .args .pending .now) (omega (arith, s .pre .cells)))
 
-mul-all-below : tie.Need-mul-all-below
-mul-all-below c = search needs
-
-all-below-requires : tie.Need-all-below-requires
-all-below-requires c κs = search needs
-
 returns-3 : tie.Need-returns-3
 returns-3 c =
     let a = c .before .before .before .before .before .before .before .before .args in
     let r = c .before .all-below in
     past-range (a .m) (a .k) (a .pending .now) (a .bits .now) (a .stage) (r .result) (r .ensures) (not-true (r .result) (c .if3 .taken))
 
-mul-or-cells : tie.Need-mul-or-cells
-mul-or-cells c = search needs
-
-or-cells-requires : tie.Need-or-cells-requires
-or-cells-requires c κs = search needs
-
 returns-4 : tie.Need-returns-4
 returns-4 c =
     let a = c .before .before .before .before .before .before .before .before .before .before .args in
     unsound (a .m) (a .k) (a .pending .now) (a .bits .now) (a .stage) (λ S. c .if4 .taken (c .before .or-cells .ensures .1 (S .unused)))
-
-bits-fit-requires : tie.Need-bits-fit-requires
-bits-fit-requires c κs = search needs
 
 returns-5 : tie.Need-returns-5
 returns-5 c =
@@ -67,16 +46,16 @@ pub is-builder-spec : {M : Type 1} → statement M
 is-builder-spec =
     tie.close
     (tie.spec
-    mul-if1
+    (λ c. search needs)
     returns
-    mul-if2
+    (λ c. search needs)
     returns-2
     slice-aggregate-all-below
-    mul-all-below
-    all-below-requires
+    (λ c. search needs)
+    (λ c κs. search needs)
     returns-3
-    mul-or-cells
-    or-cells-requires
+    (λ c. search needs)
+    (λ c κs. search needs)
     returns-4
-    bits-fit-requires
+    (λ c κs. search needs)
     returns-5)

@@ -8,9 +8,6 @@ use Rattle.judge_row.proofs.boundary_of.Tie as tie
 returns : tie.Need-returns
 returns c = entry-none _ _ _ _ (c .if1 .taken)
 
-sub-row-entry : tie.Need-sub-row-entry
-sub-row-entry c = search needs
-
 row-entry-requires : tie.Need-row-entry-requires
 row-entry-requires c κs =
     let s = c .before .before in
@@ -20,4 +17,4 @@ returns-2 : tie.Need-returns-2
 returns-2 c = entry-at _ (last-in (c .before .before .before .pre .2) (c .before .if1 .left)) _ _ (c .row-entry .ensures)
 
 pub boundary-of-spec : {M : Type 1} → statement M
-boundary-of-spec = tie.close (tie.spec returns sub-row-entry row-entry-requires returns-2)
+boundary-of-spec = tie.close (tie.spec returns (λ c. search needs) row-entry-requires returns-2)

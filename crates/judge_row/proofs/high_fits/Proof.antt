@@ -8,24 +8,6 @@ use Rattle.judge_row.proofs.high_fits.Tie as tie
 returns : tie.Need-returns
 returns c = no-blocks _ _ _ _ (c .if1 .taken) (c .before .before .pre .0)
 
-sub-read-u64 : tie.Need-sub-read-u64
-sub-read-u64 c = search needs
-
-mul-read-u64 : tie.Need-mul-read-u64
-mul-read-u64 c = search needs
-
-add-read-u64 : tie.Need-add-read-u64
-add-read-u64 c = search needs
-
-read-u64-requires : tie.Need-read-u64-requires
-read-u64-requires c κs = search needs
-
-sub-result : tie.Need-sub-result
-sub-result c = search needs
-
-shr-result : tie.Need-shr-result
-shr-result c = search needs
-
 returns-2 : tie.Need-returns-2
 returns-2 c =
     high-tells _ _ _ _ (c .read-u64 .result) (c .before .before .before .pre .0) (c .before .if1 .left) (omega arith) (c .read-u64 .ensures)
@@ -35,10 +17,10 @@ high-fits-spec =
     tie.close
     (tie.spec
     returns
-    sub-read-u64
-    mul-read-u64
-    add-read-u64
-    read-u64-requires
-    sub-result
-    shr-result
+    (λ c. search needs)
+    (λ c. search needs)
+    (λ c. search needs)
+    (λ c κs. search needs)
+    (λ c. search needs)
+    (λ c. search needs)
     returns-2)

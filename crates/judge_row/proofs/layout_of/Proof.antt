@@ -8,21 +8,15 @@ use Rattle.judge_row.proofs.layout_of.Tie as tie
 div-least : tie.Need-div-least
 div-least c = row-sizes (c .before .pre) .0
 
-least-requires : tie.Need-least-requires
-least-requires c κs = search needs
-
 mul-at : tie.Need-mul-at
 mul-at c = omega (arith, row-sizes (c .before .before .before .pre) .1)
 
 add-at : tie.Need-add-at
 add-at c = omega (arith, row-sizes (c .before .before .before .pre) .1)
 
-blocks-from-requires : tie.Need-blocks-from-requires
-blocks-from-requires c κs = search needs
-
 returns : tie.Need-returns
 returns c = layout-is (c .before .before .before .before .args .row .now) _ _ _ (c .before .before .least .ensures) (c .blocks-from .ensures)
 
 pub layout-of-spec : {M : Type 1} → statement M
 layout-of-spec =
-    tie.close (tie.spec div-least least-requires mul-at add-at blocks-from-requires returns)
+    tie.close (tie.spec div-least (λ c κs. search needs) mul-at add-at (λ c κs. search needs) returns)

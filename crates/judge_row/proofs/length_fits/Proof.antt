@@ -17,15 +17,6 @@ rem-result c = row-sizes (c .before .before .before .before .before .pre) .0
 returns-2 : tie.Need-returns-2
 returns-2 c n e = only-entries _ _ n e (c .before .before .if1 .left) (c .before .if2 .taken)
 
-add-if3 : tie.Need-add-if3
-add-if3 c = search needs
-
-add-result : tie.Need-add-result
-add-result c = search needs
-
-sub-result : tie.Need-sub-result
-sub-result c = search needs
-
 returns-3 : tie.Need-returns-3
 returns-3 c n e = with-blocks _ _ n e (c .before .before .if1 .left) (c .before .if2 .left) (c .if3 .taken)
 
@@ -40,8 +31,8 @@ length-fits-spec =
     returns
     rem-result
     returns-2
-    add-if3
-    add-result
-    sub-result
+    (λ c. search needs)
+    (λ c. search needs)
+    (λ c. search needs)
     returns-3
     returns-4)

@@ -6,12 +6,6 @@ use borrow.Author.Tests.{not-false}
 use Rattle.judge_row.proofs.row.Statement.{statement}
 use Rattle.judge_row.proofs.row.Tie as tie
 
-sizes-of-requires : tie.Need-sizes-of-requires
-sizes-of-requires c κs = search needs
-
-enum-known-s : tie.Need-enum-known-s
-enum-known-s c = search needs
-
 length-fits-requires : tie.Need-length-fits-requires
 length-fits-requires c κs = row-listed _ (c .before .before .before .sizes-of .ensures) (c .before .s .given .1)
 
@@ -55,9 +49,6 @@ returns-3 c =
     (l .before .before .length-fits .ensures) (l .before .if1 .left) (c .before .before .before .entries-fall .ensures) (c .before .before .if2 .left)
     (c .before .is-faultless .ensures) (c .if3 .taken)
 
-enum-known-r : tie.Need-enum-known-r
-enum-known-r c = search needs
-
 returns-4 : tie.Need-returns-4
 returns-4 c =
     let l = c .before .before .before .before in
@@ -73,8 +64,8 @@ pub row-spec : {M : Type 1} → statement M
 row-spec =
     tie.close
     (tie.spec
-    sizes-of-requires
-    enum-known-s
+    (λ c κs. search needs)
+    (λ c. search needs)
     length-fits-requires
     returns
     layout-of-requires
@@ -83,6 +74,6 @@ row-spec =
     returns-2
     is-faultless-requires
     returns-3
-    enum-known-r
+    (λ c. search needs)
     returns-4
     returns-5)

@@ -7,9 +7,6 @@ use Rattle.sizes.specs.Sizes.{refusal}
 use Rattle.judge_row.proofs.unfallen.Statement.{statement}
 use Rattle.judge_row.proofs.unfallen.Tie as tie
 
-entries-fit-requires : tie.Need-entries-fit-requires
-entries-fit-requires c κs = search needs
-
 returns : tie.Need-returns
 returns c =
     ap (λ (b : Bool). refusal (cond b 5 2)) (sym (not-true (c .before .entries-fit .result) (c .if1 .taken)) ∙ c .before .entries-fit .ensures)
@@ -19,4 +16,4 @@ returns-2 c =
     ap (λ (b : Bool). refusal (cond b 5 2)) (sym (not-false (c .before .entries-fit .result) (c .if1 .left)) ∙ c .before .entries-fit .ensures)
 
 pub unfallen-spec : {M : Type 1} → statement M
-unfallen-spec = tie.close (tie.spec entries-fit-requires returns returns-2)
+unfallen-spec = tie.close (tie.spec (λ c κs. search needs) returns returns-2)

@@ -6,22 +6,10 @@ use Rattle.lines.proofs.Paths.{bare, config-long, config-told, no-confi
 use Rattle.lines.proofs.config_line.Statement.{statement}
 use Rattle.lines.proofs.config_line.Tie as tie
 
-slice-aggregate-equals : tie.Need-slice-aggregate-equals
-slice-aggregate-equals c = search needs
-
-equals-requires : tie.Need-equals-requires
-equals-requires c κs = search needs
-
 returns : tie.Need-returns
 returns c =
     let k = c .before in
     bare (k .before .before .before .args .line .now) (sym (c .if1 .taken) ∙ k .equals .ensures)
-
-slice-aggregate-starts-with : tie.Need-slice-aggregate-starts-with
-slice-aggregate-starts-with c = search needs
-
-starts-with-requires : tie.Need-starts-with-requires
-starts-with-requires c κs = search needs
 
 returns-2 : tie.Need-returns-2
 returns-2 c =
@@ -40,12 +28,6 @@ sub-numbered c =
 part-numbered-start : tie.Need-part-numbered-start
 part-numbered-start c = sub-numbered c
 
-part-numbered-end : tie.Need-part-numbered-end
-part-numbered-end c = search needs
-
-numbered-requires : tie.Need-numbered-requires
-numbered-requires c κs = search needs
-
 returns-3 : tie.Need-returns-3
 returns-3 c =
     let k = c .before .before .before in
@@ -57,14 +39,14 @@ pub config-line-spec : {M : Type 1} → statement M
 config-line-spec =
     tie.close
     (tie.spec
-    slice-aggregate-equals
-    equals-requires
+    (λ c. search needs)
+    (λ c κs. search needs)
     returns
-    slice-aggregate-starts-with
-    starts-with-requires
+    (λ c. search needs)
+    (λ c κs. search needs)
     returns-2
     sub-numbered
     part-numbered-start
-    part-numbered-end
-    numbered-requires
+    (λ c. search needs)
+    (λ c κs. search needs)
     returns-3)

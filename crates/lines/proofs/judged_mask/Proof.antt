@@ -4,15 +4,6 @@ use Rattle.lines.proofs.Paths.{mask-not, mask-taken}
 use Rattle.lines.proofs.judged_mask.Statement.{statement}
 use Rattle.lines.proofs.judged_mask.Tie as tie
 
-mask-requires : tie.Need-mask-requires
-mask-requires c κs = search needs
-
-enum-told : tie.Need-enum-told
-enum-told c = search needs
-
-enum-known-r : tie.Need-enum-known-r
-enum-known-r c = search needs
-
 returns : tie.Need-returns
 returns c =
     let k = c .before .before in
@@ -24,4 +15,4 @@ returns-2 c =
     mask-not (k .before .args .mask) (k .before .args .size) (k .mask .ensures) (c .before .r .given .1)
 
 pub judged-mask-spec : {M : Type 1} → statement M
-judged-mask-spec = tie.close (tie.spec mask-requires enum-told enum-known-r returns returns-2)
+judged-mask-spec = tie.close (tie.spec (λ c κs. search needs) (λ c. search needs) (λ c. search needs) returns returns-2)

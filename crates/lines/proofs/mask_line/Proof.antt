@@ -5,12 +5,6 @@ use Rattle.lines.proofs.Paths.{mask-line-told, mask-long, no-word}
 use Rattle.lines.proofs.mask_line.Statement.{statement}
 use Rattle.lines.proofs.mask_line.Tie as tie
 
-slice-aggregate-starts-with : tie.Need-slice-aggregate-starts-with
-slice-aggregate-starts-with c = search needs
-
-starts-with-requires : tie.Need-starts-with-requires
-starts-with-requires c κs = search needs
-
 returns : tie.Need-returns
 returns c =
     let k = c .before in
@@ -24,12 +18,6 @@ sub-two-decimals c =
 part-two-decimals-start : tie.Need-part-two-decimals-start
 part-two-decimals-start c = sub-two-decimals c
 
-part-two-decimals-end : tie.Need-part-two-decimals-end
-part-two-decimals-end c = search needs
-
-two-decimals-requires : tie.Need-two-decimals-requires
-two-decimals-requires c κs = search needs
-
 returns-2 : tie.Need-returns-2
 returns-2 c =
     let k = c .before .before .before in
@@ -40,11 +28,11 @@ pub mask-line-spec : {M : Type 1} → statement M
 mask-line-spec =
     tie.close
     (tie.spec
-    slice-aggregate-starts-with
-    starts-with-requires
+    (λ c. search needs)
+    (λ c κs. search needs)
     returns
     sub-two-decimals
     part-two-decimals-start
-    part-two-decimals-end
-    two-decimals-requires
+    (λ c. search needs)
+    (λ c κs. search needs)
     returns-2)

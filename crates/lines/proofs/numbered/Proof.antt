@@ -15,9 +15,6 @@ returns c =
     let ds = c .before .before .before .args .digits .now in
     other-length ds (c .before .if1 .taken) (not-true (eqb (length ds) 2) (c .if2 .taken))
 
-all-digits-requires : tie.Need-all-digits-requires
-all-digits-requires c κs = search needs
-
 -- past the first test there are one or two bytes
 few : (c : tie.Joined1) → (eqb (length (c .before .before .args .digits .now)) 1 || eqb (length (c .before .before .args .digits .now)) 2) ≡ true
 few c =
@@ -29,24 +26,12 @@ returns-2 c =
     let k = c .before in
     other-byte (k .before .before .before .args .digits .now) (sym (not-true (k .all-digits .result) (c .if3 .taken)) ∙ k .all-digits .ensures)
 
-slice-aggregate-equals : tie.Need-slice-aggregate-equals
-slice-aggregate-equals c = search needs
-
-equals-requires : tie.Need-equals-requires
-equals-requires c κs = search needs
-
 returns-3 : tie.Need-returns-3
 returns-3 c =
     let k = c .before .before .before .before in
     is-seven (k .before .before .before .args .digits .now) (few (k .before))
     (sym (not-false (k .all-digits .result) (c .before .before .before .if3 .left)) ∙ k .all-digits .ensures)
     (sym (c .if4 .taken) ∙ c .before .equals .ensures)
-
-slice-aggregate-equals-2 : tie.Need-slice-aggregate-equals-2
-slice-aggregate-equals-2 c = search needs
-
-equals-requires-2 : tie.Need-equals-requires-2
-equals-requires-2 c κs = search needs
 
 returns-4 : tie.Need-returns-4
 returns-4 c =
@@ -69,12 +54,12 @@ numbered-spec =
     tie.close
     (tie.spec
     returns
-    all-digits-requires
+    (λ c κs. search needs)
     returns-2
-    slice-aggregate-equals
-    equals-requires
+    (λ c. search needs)
+    (λ c κs. search needs)
     returns-3
-    slice-aggregate-equals-2
-    equals-requires-2
+    (λ c. search needs)
+    (λ c κs. search needs)
     returns-4
     returns-5)

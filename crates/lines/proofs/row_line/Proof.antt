@@ -6,15 +6,6 @@ use Rattle.lines.proofs.Paths.{no-hex, row-in, row-told}
 use Rattle.lines.proofs.row_line.Statement.{statement}
 use Rattle.lines.proofs.row_line.Tie as tie
 
-slice-aggregate-from-hex : tie.Need-slice-aggregate-from-hex
-slice-aggregate-from-hex c = search needs
-
-from-hex-requires : tie.Need-from-hex-requires
-from-hex-requires c κs = search needs
-
-enum-known-n : tie.Need-enum-known-n
-enum-known-n c = search needs
-
 array-share-prefix-row : tie.Need-array-share-prefix-row
 array-share-prefix-row c =
     let k = c .before .before .before .before in
@@ -24,18 +15,6 @@ slice-aggregate-read : tie.Need-slice-aggregate-read
 slice-aggregate-read c =
     let k = c .before .before .before .before .before in
     sym (length-take-le (c .before .before .n .given .0 .0) (k .from-hex .last .1 .0) (array-share-prefix-row (c .before)))
-
-read-requires : tie.Need-read-requires
-read-requires c κs = search needs
-
-enum-told : tie.Need-enum-told
-enum-told c = search needs
-
-same-length : tie.Need-same-length
-same-length c = search needs
-
-same-length-2 : tie.Need-same-length-2
-same-length-2 c = search needs
 
 returns : tie.Need-returns
 returns c =
@@ -57,14 +36,14 @@ pub row-line-spec : {M : Type 1} → statement M
 row-line-spec =
     tie.close
     (tie.spec
-    slice-aggregate-from-hex
-    from-hex-requires
-    enum-known-n
+    (λ c. search needs)
+    (λ c κs. search needs)
+    (λ c. search needs)
     array-share-prefix-row
     slice-aggregate-read
-    read-requires
-    enum-told
-    same-length
-    same-length-2
+    (λ c κs. search needs)
+    (λ c. search needs)
+    (λ c. search needs)
+    (λ c. search needs)
     returns
     returns-2)

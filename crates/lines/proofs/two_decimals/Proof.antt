@@ -9,15 +9,6 @@ use Rattle.lines.proofs.Paths.{before-end, no-mask, no-size, no-space, 
 use Rattle.lines.proofs.two_decimals.Statement.{statement}
 use Rattle.lines.proofs.two_decimals.Tie as tie
 
-find-requires : tie.Need-find-requires
-find-requires c κs = search needs
-
-enum-known-end : tie.Need-enum-known-end
-enum-known-end c = search needs
-
-enum-told : tie.Need-enum-told
-enum-told c = search needs
-
 returns : tie.Need-returns
 returns c =
     let k = c .before .before in
@@ -34,15 +25,6 @@ slice-aggregate-decimal c =
     let e = c .before .before in
     sym (length-take-le (e .end .given .0 .0) (e .before .before .before .before .args .text .now) (omega (arith, end-in e)))
 
-decimal-requires : tie.Need-decimal-requires
-decimal-requires c κs = search needs
-
-enum-known-mask : tie.Need-enum-known-mask
-enum-known-mask c = search needs
-
-enum-told-2 : tie.Need-enum-told-2
-enum-told-2 c = search needs
-
 returns-2 : tie.Need-returns-2
 returns-2 c =
     let d = c .before .before in
@@ -58,21 +40,6 @@ sub-decimal c = omega (arith, end-in (c .before .before .before .before .before 
 
 part-decimal-start : tie.Need-part-decimal-start
 part-decimal-start c = sub-decimal c
-
-part-decimal-end : tie.Need-part-decimal-end
-part-decimal-end c = search needs
-
-decimal-requires-2 : tie.Need-decimal-requires-2
-decimal-requires-2 c κs = search needs
-
-enum-known-size : tie.Need-enum-known-size
-enum-known-size c = search needs
-
-judged-mask-requires : tie.Need-judged-mask-requires
-judged-mask-requires c κs = search needs
-
-enum-told-3 : tie.Need-enum-told-3
-enum-told-3 c = search needs
 
 returns-3 : tie.Need-returns-3
 returns-3 c =
@@ -98,22 +65,22 @@ pub two-decimals-spec : {M : Type 1} → statement M
 two-decimals-spec =
     tie.close
     (tie.spec
-    find-requires
-    enum-known-end
-    enum-told
+    (λ c κs. search needs)
+    (λ c. search needs)
+    (λ c. search needs)
     returns
     slice-aggregate-decimal
-    decimal-requires
-    enum-known-mask
-    enum-told-2
+    (λ c κs. search needs)
+    (λ c. search needs)
+    (λ c. search needs)
     returns-2
     add-next
     sub-decimal
     part-decimal-start
-    part-decimal-end
-    decimal-requires-2
-    enum-known-size
-    judged-mask-requires
-    enum-told-3
+    (λ c. search needs)
+    (λ c κs. search needs)
+    (λ c. search needs)
+    (λ c κs. search needs)
+    (λ c. search needs)
     returns-3
     returns-4)

@@ -16,18 +16,6 @@ told k =
     two (s .args .a) (now (s .args .top)) (now (s .args .blocks)) (s .args .b) (now (s .args .top2)) (now (s .args .blocks2)) (k .s .given .0 .0)
     (k .before .before .filters-lent .ensures) (k .s .given .1)
 
-filters-lent-requires : tie.Need-filters-lent-requires
-filters-lent-requires c κs = search needs
-
-enum-known-s : tie.Need-enum-known-s
-enum-known-s c = search needs
-
-mask-requires : tie.Need-mask-requires
-mask-requires c κs = search needs
-
-enum-told : tie.Need-enum-told
-enum-told c = search needs
-
 num-blocks-requires : tie.Need-num-blocks-requires
 num-blocks-requires c κs = omega (arith, told (c .before .before .before .before) .fits)
 
@@ -46,12 +34,6 @@ order-requires c κs =
       fits-walk (c .before .before .num-blocks .result) (c .before .before .num-blocks .ensures) (w .fits) .0,
       (fits-walk (c .before .num-blocks2 .result) (c .before .num-blocks2 .ensures) (w .fits2) .0, block-laid _ _ (t .before .before .mask .ensures) (t .enum-told .given .1) (c .repeat-mask .ensures)),
     )
-
-enum-known-r : tie.Need-enum-known-r
-enum-known-r c = search needs
-
-enum-known-r-2 : tie.Need-enum-known-r-2
-enum-known-r-2 c = search needs
 
 returns : tie.Need-returns
 returns c =
@@ -78,16 +60,16 @@ pub cmp-masked-spec : {M : Type 1} → statement M
 cmp-masked-spec =
     tie.close
     (tie.spec
-    filters-lent-requires
-    enum-known-s
-    mask-requires
-    enum-told
+    (λ c κs. search needs)
+    (λ c. search needs)
+    (λ c κs. search needs)
+    (λ c. search needs)
     num-blocks-requires
     num-blocks-requires-2
     repeat-mask-requires
     order-requires
-    enum-known-r
-    enum-known-r-2
+    (λ c. search needs)
+    (λ c. search needs)
     returns
     returns-2
     returns-3)

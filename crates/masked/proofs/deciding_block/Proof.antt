@@ -18,12 +18,6 @@ loop-holds c =
     let s = c .before .before .before .before in
     differ-start _ _ _ _ (s .pre .0 .2) (s .pre .1 .0 .2)
 
-next-xor-chunk-requires : tie.Need-next-xor-chunk-requires Inv-loop μ-loop
-next-xor-chunk-requires c κs = search needs
-
-enum-known-block : tie.Need-enum-known-block Inv-loop μ-loop
-enum-known-block c = search needs
-
 masked-block-requires : tie.Need-masked-block-requires Inv-loop μ-loop
 masked-block-requires c κs =
     let k = c .before in
@@ -40,9 +34,6 @@ loop-again : tie.Need-loop-again Inv-loop μ-loop
 loop-again c =
     let k = c .before .before .before in
     differ-turn (k .before .before .before .loop .inv) (k .block .given .1) (k .before .before .next-xor-chunk .ensures) (c .before .masked-block .ensures) (c .if1 .left)
-
-enum-told : tie.Need-enum-told Inv-loop μ-loop
-enum-told c = search needs
 
 returns : tie.Need-returns Inv-loop μ-loop
 returns c =
@@ -61,11 +52,11 @@ deciding-block-spec =
     Inv-loop
     μ-loop
     loop-holds
-    next-xor-chunk-requires
-    enum-known-block
+    (λ c κs. search needs)
+    (λ c. search needs)
     masked-block-requires
     loop-less
     loop-again
-    enum-told
+    (λ c. search needs)
     returns
     returns-2)

@@ -15,18 +15,6 @@ told k =
     let s = k .before .before .before .before .before in
     one (s .args .f) (now (s .args .top)) (now (s .args .blocks)) (k .s .given .0 .0) (k .before .before .filter-lent .ensures) (k .s .given .1)
 
-filter-lent-requires : tie.Need-filter-lent-requires
-filter-lent-requires c κs = search needs
-
-enum-known-s : tie.Need-enum-known-s
-enum-known-s c = search needs
-
-mask-requires : tie.Need-mask-requires
-mask-requires c κs = search needs
-
-enum-told : tie.Need-enum-told
-enum-told c = search needs
-
 num-blocks-requires : tie.Need-num-blocks-requires
 num-blocks-requires c κs = omega (arith, told (c .before .before .before .before) .fits)
 
@@ -42,12 +30,6 @@ pack-requires c κs =
       fits-walk (c .before .num-blocks .result) (c .before .num-blocks .ensures) (w .fits) .0,
       (block-laid _ _ (t .before .before .mask .ensures) (t .enum-told .given .1) (c .repeat-mask .ensures), slot-bits _ (w .sizes)),
     )
-
-enum-known-r : tie.Need-enum-known-r
-enum-known-r c = search needs
-
-enum-known-r-2 : tie.Need-enum-known-r-2
-enum-known-r-2 c = search needs
 
 returns : tie.Need-returns
 returns c =
@@ -71,15 +53,15 @@ pub masked-sort-key-spec : {M : Type 1} → statement M
 masked-sort-key-spec =
     tie.close
     (tie.spec
-    filter-lent-requires
-    enum-known-s
-    mask-requires
-    enum-told
+    (λ c κs. search needs)
+    (λ c. search needs)
+    (λ c κs. search needs)
+    (λ c. search needs)
     num-blocks-requires
     repeat-mask-requires
     pack-requires
-    enum-known-r
-    enum-known-r-2
+    (λ c. search needs)
+    (λ c. search needs)
     returns
     returns-2
     returns-3)

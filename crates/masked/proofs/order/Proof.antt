@@ -5,14 +5,8 @@ use Rattle.masked.proofs.Differing.{decides-order}
 use Rattle.masked.proofs.order.Statement.{statement}
 use Rattle.masked.proofs.order.Tie as tie
 
-deciding-block-requires : tie.Need-deciding-block-requires
-deciding-block-requires c κs = search needs
-
-order-by-requires : tie.Need-order-by-requires
-order-by-requires c κs = search needs
-
 returns : tie.Need-returns
 returns c = c .order-by .ensures ∙ decides-order _ _ _ _ _ (c .before .deciding-block .result) (c .before .deciding-block .ensures)
 
 pub order-spec : {M : Type 1} → statement M
-order-spec = tie.close (tie.spec deciding-block-requires order-by-requires returns)
+order-spec = tie.close (tie.spec (λ c κs. search needs) (λ c κs. search needs) returns)

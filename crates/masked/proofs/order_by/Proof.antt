@@ -4,20 +4,11 @@ use Rattle.masked.proofs.Differing.{order-greater, order-less}
 use Rattle.masked.proofs.order_by.Statement.{statement}
 use Rattle.masked.proofs.order_by.Tie as tie
 
-enum-known-found : tie.Need-enum-known-found
-enum-known-found c = search needs
-
 returns : tie.Need-returns
 returns c = order-greater (c .before .before .found .given .1) (c .if1 .taken)
-
-enum-told : tie.Need-enum-told
-enum-told c = search needs
 
 returns-2 : tie.Need-returns-2
 returns-2 c = order-less (c .before .before .found .given .1) (c .if1 .left)
 
-returns-3 : tie.Need-returns-3
-returns-3 c = search needs
-
 pub order-by-spec : {M : Type 1} → statement M
-order-by-spec = tie.close (tie.spec enum-known-found returns enum-told returns-2 returns-3)
+order-by-spec = tie.close (tie.spec (λ c. search needs) returns (λ c. search needs) returns-2 (λ c. search needs))

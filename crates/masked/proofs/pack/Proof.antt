@@ -18,20 +18,8 @@ Inv-loop top count blocks n mask size k bits limit key₀ room₀ at₀ key room
 abbrev μ-loop : tie.MeasureT-loop
 μ-loop top count blocks n mask size k bits limit key₀ room₀ at₀ key room at = room
 
-shl-limit : tie.Need-shl-limit Inv-loop μ-loop
-shl-limit c = search needs
-
 loop-holds : tie.Need-loop-holds Inv-loop μ-loop
 loop-holds c = pack-start _ _ (c .before .before .pre .0 .2)
-
-next-one-requires : tie.Need-next-one-requires Inv-loop μ-loop
-next-one-requires c κs = search needs
-
-enum-known-p : tie.Need-enum-known-p Inv-loop μ-loop
-enum-known-p c = search needs
-
-enum-told : tie.Need-enum-told Inv-loop μ-loop
-enum-told c = search needs
 
 returns : tie.Need-returns Inv-loop μ-loop
 returns c = pack-none (c .before .before .before .loop .inv) (c .enum-told .given .1) (c .before .before .next-one .ensures)
@@ -41,12 +29,6 @@ returns-2 c =
     let k = c .before .before in
     let l = k .before .before .before in
     pack-bad (l .loop .inv) (k .p .given .1) (k .before .before .next-one .ensures) (l .before .before .before .pre .1 .1) (c .if1 .taken)
-
-sub-t19 : tie.Need-sub-t19 Inv-loop μ-loop
-sub-t19 c = omega arith
-
-shr-t21 : tie.Need-shr-t21 Inv-loop μ-loop
-shr-t21 c = omega arith
 
 add-t22 : tie.Need-add-t22 Inv-loop μ-loop
 add-t22 c =
@@ -69,9 +51,6 @@ add-key c =
     let l = k .before .before .before in
     record { fits = pack-fits (l .loop .inv) (k .p .given .1) (k .before .before .next-one .ensures) (l .before .before .before .pre .1 .1) (c .before .if1 .left) (c .if2 .left) }
 
-loop-less : tie.Need-loop-less Inv-loop μ-loop
-loop-less c = omega arith
-
 loop-again : tie.Need-loop-again Inv-loop μ-loop
 loop-again c =
     let k = c .before .before .before in
@@ -84,18 +63,18 @@ pack-spec =
     (tie.spec
     Inv-loop
     μ-loop
-    shl-limit
+    (λ c. search needs)
     loop-holds
-    next-one-requires
-    enum-known-p
-    enum-told
+    (λ c κs. search needs)
+    (λ c. search needs)
+    (λ c. search needs)
     returns
     returns-2
-    sub-t19
-    shr-t21
+    (λ c. omega arith)
+    (λ c. omega arith)
     add-t22
     returns-3
     shl-key
     add-key
-    loop-less
+    (λ c. omega arith)
     loop-again)

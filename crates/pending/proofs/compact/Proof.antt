@@ -11,12 +11,6 @@ toggle-all-requires c κs =
     let s = c .before .before .before .before in
     fold-fits (s .pre .0) (s .pre .1 .0)
 
-settle-requires : tie.Need-settle-requires
-settle-requires c κs = search needs
-
-lift-requires : tie.Need-lift-requires
-lift-requires c κs = search needs
-
 -- what stands at or above the split is taken out
 is-taken : (c : tie.Joined1) → Taken (c .before .before .before .before .before .before .before .before .before .before .args .k) (c .before .settle .result .split) (c .before .settle .result .count)
     (c .before .before .before .before .before .before .before .before .before .before .args .pending .now) (c .before .before .before .before .before .toggle-all .last .0) (c .if1 .pending) (c .if1 .bits)
@@ -26,9 +20,6 @@ is-taken c =
     (λ w. rw (w .8, w .9) (take-some (g .settle .ensures) (w .0 .taken) (w .3 .ensures)))
     (λ w. rw (w .1, w .2) (take-none (g .settle .ensures) _ (w .0 .left)))
     (c .if1 .came)
-
-mul-zero-cells : tie.Need-mul-zero-cells
-mul-zero-cells c = search needs
 
 zero-cells-requires : tie.Need-zero-cells-requires
 zero-cells-requires c κs =
@@ -61,9 +52,9 @@ compact-spec =
     tie.close
     (tie.spec
     toggle-all-requires
-    settle-requires
-    lift-requires
-    mul-zero-cells
+    (λ c κs. search needs)
+    (λ c κs. search needs)
+    (λ c. search needs)
     zero-cells-requires
     same-length
     same-length-2

@@ -6,32 +6,8 @@ use Rattle.pending.proofs.Settling.{none-from, onward-few, parts-from}
 use Rattle.pending.proofs.count_from.Statement.{statement}
 use Rattle.pending.proofs.count_from.Tie as tie
 
-into-index-requires : tie.Need-into-index-requires
-into-index-requires c κs = search needs
-
 returns : tie.Need-returns
 returns c = none-from _ _ _ (omega (arith, c .if1 .taken, c .before .into-index .ensures))
-
-mul-ones-of : tie.Need-mul-ones-of
-mul-ones-of c = search needs
-
-shared-slice-read-ones-of : tie.Need-shared-slice-read-ones-of
-shared-slice-read-ones-of c = search needs
-
-into-bit-requires : tie.Need-into-bit-requires
-into-bit-requires c κs = search needs
-
-shr-ones-of : tie.Need-shr-ones-of
-shr-ones-of c = search needs
-
-ones-of-requires : tie.Need-ones-of-requires
-ones-of-requires c κs = search needs
-
-add-count-ones : tie.Need-add-count-ones
-add-count-ones c = search needs
-
-count-ones-requires : tie.Need-count-ones-requires
-count-ones-requires c κs = search needs
 
 returns-2 : tie.Need-returns-2
 returns-2 c =
@@ -50,14 +26,14 @@ pub count-from-spec : {M : Type 1} → statement M
 count-from-spec =
     tie.close
     (tie.spec
-    into-index-requires
+    (λ c κs. search needs)
     returns
-    mul-ones-of
-    shared-slice-read-ones-of
-    into-bit-requires
-    shr-ones-of
-    ones-of-requires
-    add-count-ones
-    count-ones-requires
+    (λ c. search needs)
+    (λ c. search needs)
+    (λ c κs. search needs)
+    (λ c. search needs)
+    (λ c κs. search needs)
+    (λ c. search needs)
+    (λ c κs. search needs)
     add-result
     returns-2)

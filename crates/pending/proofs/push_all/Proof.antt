@@ -17,15 +17,6 @@ abbrev μ-loop : tie.MeasureT-loop
 loop-holds : tie.Need-loop-holds Inv-loop μ-loop
 loop-holds c = push-start _ _ _ _ _ _ _ (c .before .before .before .pre .1 .0)
 
-mul-into-usize : tie.Need-mul-into-usize Inv-loop μ-loop
-mul-into-usize c = omega arith
-
-shared-slice-read-into-usize : tie.Need-shared-slice-read-into-usize Inv-loop μ-loop
-shared-slice-read-into-usize c = omega arith
-
-into-usize-requires : tie.Need-into-usize-requires Inv-loop μ-loop
-into-usize-requires c κs = search needs
-
 push-one-requires : tie.Need-push-one-requires Inv-loop μ-loop
 push-one-requires c κs =
     let u = c .before .before in
@@ -33,12 +24,6 @@ push-one-requires c κs =
     let s = k .before .before .before .before in
     let t = k .loop .inv in
     (moves-room (t .moves) (s .pre .0), (t .moves .staged, (s .pre .1 .1 .0, s .pre .1 .1 .1, omega (arith, u .into-usize .ensures, s .pre .1 .1 .2 (k .loop .i) (omega arith)))))
-
-add-i : tie.Need-add-i Inv-loop μ-loop
-add-i c = omega arith
-
-loop-less : tie.Need-loop-less Inv-loop μ-loop
-loop-less c = omega arith
 
 loop-again : tie.Need-loop-again Inv-loop μ-loop
 loop-again c =
@@ -63,12 +48,12 @@ push-all-spec =
     Inv-loop
     μ-loop
     loop-holds
-    mul-into-usize
-    shared-slice-read-into-usize
-    into-usize-requires
+    (λ c. omega arith)
+    (λ c. omega arith)
+    (λ c κs. search needs)
     push-one-requires
-    add-i
-    loop-less
+    (λ c. omega arith)
+    (λ c. omega arith)
     loop-again
     same-length
     same-length-2

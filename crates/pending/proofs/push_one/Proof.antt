@@ -4,42 +4,15 @@ use borrow.Author.Needs.{needs}
 use Rattle.pending.proofs.push_one.Statement.{statement}
 use Rattle.pending.proofs.push_one.Tie as tie
 
-toggle-requires : tie.Need-toggle-requires
-toggle-requires c κs = search needs
-
-same-length : tie.Need-same-length
-same-length c = search needs
-
 returns : tie.Need-returns
 returns c =
     let s = c .before .before .before .before .before .before .before .before in
     push-low (s .pre .0) (s .pre .1 .0) _ (s .pre .1 .1 .2) _ _ (c .before .before .before .before .if1 .taken) (c .before .before .toggle .ensures)
 
-mul-if2 : tie.Need-mul-if2
-mul-if2 c = search needs
-
-store-requires : tie.Need-store-requires
-store-requires c κs = search needs
-
-same-length-2 : tie.Need-same-length-2
-same-length-2 c = search needs
-
 returns-2 : tie.Need-returns-2
 returns-2 c =
     let s = c .before .before .before .before .before .before .before .before .before .before in
     push-high (s .pre .0) (s .pre .1 .0) _ (s .pre .1 .1 .2) _ _ _ (c .before .before .before .before .before .before .if1 .left) (c .before .before .before .before .if2 .taken) (c .before .before .store .ensures)
-
-compact-requires : tie.Need-compact-requires
-compact-requires c κs = search needs
-
-store-requires-2 : tie.Need-store-requires-2
-store-requires-2 c κs = search needs
-
-same-length-3 : tie.Need-same-length-3
-same-length-3 c = search needs
-
-same-length-4 : tie.Need-same-length-4
-same-length-4 c = search needs
 
 returns-3 : tie.Need-returns-3
 returns-3 c =
@@ -51,15 +24,15 @@ pub push-one-spec : {M : Type 1} → statement M
 push-one-spec =
     tie.close
     (tie.spec
-    toggle-requires
-    same-length
+    (λ c κs. search needs)
+    (λ c. search needs)
     returns
-    mul-if2
-    store-requires
-    same-length-2
+    (λ c. search needs)
+    (λ c κs. search needs)
+    (λ c. search needs)
     returns-2
-    compact-requires
-    store-requires-2
-    same-length-3
-    same-length-4
+    (λ c κs. search needs)
+    (λ c κs. search needs)
+    (λ c. search needs)
+    (λ c. search needs)
     returns-3)

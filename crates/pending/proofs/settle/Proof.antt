@@ -14,20 +14,11 @@ Inv-loop bits split m k level up₀ count₀ up count = Settling m k level bits 
 abbrev μ-loop : tie.MeasureT-loop
 μ-loop bits split m k level up₀ count₀ up count = 64 * k - up
 
-count-from-requires : tie.Need-count-from-requires Inv-loop μ-loop
-count-from-requires c κs = search needs
-
 loop-holds : tie.Need-loop-holds Inv-loop μ-loop
 loop-holds c = settle-start _ _ (c .before .before .pre .0 .0) (c .count-from .ensures)
 
 add-up : tie.Need-add-up Inv-loop μ-loop
 add-up c = omega (arith, c .before .loop .inv .low)
-
-mul-if1 : tie.Need-mul-if1 Inv-loop μ-loop
-mul-if1 c = search needs
-
-mul-up : tie.Need-mul-up Inv-loop μ-loop
-mul-up c = search needs
 
 -- one rise
 raised : (c : tie.Joined1 Inv-loop μ-loop)
@@ -56,11 +47,11 @@ settle-spec =
     (tie.spec
     Inv-loop
     μ-loop
-    count-from-requires
+    (λ c κs. search needs)
     loop-holds
     add-up
-    mul-if1
-    mul-up
+    (λ c. search needs)
+    (λ c. search needs)
     count-from-requires-2
     loop-less
     loop-again

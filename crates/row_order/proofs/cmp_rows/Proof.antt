@@ -5,29 +5,11 @@ use Rattle.row_order.proofs.Asked.{rows-done, rows-unknown, rows-unmask
 use Rattle.row_order.proofs.cmp_rows.Statement.{statement}
 use Rattle.row_order.proofs.cmp_rows.Tie as tie
 
-sizes-of-requires : tie.Need-sizes-of-requires
-sizes-of-requires c κs = search needs
-
-enum-told : tie.Need-enum-told
-enum-told c = search needs
-
-mask-requires : tie.Need-mask-requires
-mask-requires c κs = search needs
-
-enum-told-2 : tie.Need-enum-told-2
-enum-told-2 c = search needs
-
 repeat-mask-requires : tie.Need-repeat-mask-requires
 repeat-mask-requires c κs = mask-in _ _ (c .before .before .mask .ensures) (c .enum-told2 .given .1)
 
 order-judged-requires : tie.Need-order-judged-requires
 order-judged-requires c κs = block-laid _ _ (c .before .before .before .mask .ensures) (c .before .enum-told2 .given .1) (c .repeat-mask .ensures)
-
-enum-known-r : tie.Need-enum-known-r
-enum-known-r c = search needs
-
-enum-known-r-2 : tie.Need-enum-known-r-2
-enum-known-r-2 c = search needs
 
 returns : tie.Need-returns
 returns c =
@@ -48,14 +30,14 @@ pub cmp-rows-spec : {M : Type 1} → statement M
 cmp-rows-spec =
     tie.close
     (tie.spec
-    sizes-of-requires
-    enum-told
-    mask-requires
-    enum-told-2
+    (λ c κs. search needs)
+    (λ c. search needs)
+    (λ c κs. search needs)
+    (λ c. search needs)
     repeat-mask-requires
     order-judged-requires
-    enum-known-r
-    enum-known-r-2
+    (λ c. search needs)
+    (λ c. search needs)
     returns
     returns-2
     returns-3)

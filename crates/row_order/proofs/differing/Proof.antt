@@ -16,18 +16,6 @@ abbrev μ-loop : tie.MeasureT-loop
 loop-holds : tie.Need-loop-holds Inv-loop μ-loop
 loop-holds c = join-start _ _ _ (c .pre .0)
 
-shared-slice-read-all : tie.Need-shared-slice-read-all Inv-loop μ-loop
-shared-slice-read-all c = omega arith
-
-shared-slice-read-all-2 : tie.Need-shared-slice-read-all-2 Inv-loop μ-loop
-shared-slice-read-all-2 c = omega arith
-
-add-i : tie.Need-add-i Inv-loop μ-loop
-add-i c = omega arith
-
-loop-less : tie.Need-loop-less Inv-loop μ-loop
-loop-less c = omega arith
-
 loop-again : tie.Need-loop-again Inv-loop μ-loop
 loop-again c = join-difference _ _ (c .before .before .loop-test .taken) (c .before .before .before .loop .inv)
 
@@ -41,9 +29,9 @@ differing-spec =
     Inv-loop
     μ-loop
     loop-holds
-    shared-slice-read-all
-    shared-slice-read-all-2
-    add-i
-    loop-less
+    (λ c. omega arith)
+    (λ c. omega arith)
+    (λ c. omega arith)
+    (λ c. omega arith)
     loop-again
     returns)

@@ -5,24 +5,6 @@ use Rattle.row_order.proofs.Theorems.{greater-equal, greater-greater, g
 use Rattle.row_order.proofs.greater_row.Statement.{statement}
 use Rattle.row_order.proofs.greater_row.Tie as tie
 
-cmp-rows-requires : tie.Need-cmp-rows-requires
-cmp-rows-requires c κs = search needs
-
-enum-told : tie.Need-enum-told
-enum-told c = search needs
-
-enum-told-2 : tie.Need-enum-told-2
-enum-told-2 c = search needs
-
-enum-told-3 : tie.Need-enum-told-3
-enum-told-3 c = search needs
-
-enum-told-4 : tie.Need-enum-told-4
-enum-told-4 c = search needs
-
-slice-aggregate-result : tie.Need-slice-aggregate-result
-slice-aggregate-result c = search needs
-
 returns : tie.Need-returns
 returns c = sym (greater-less _ _ _ _ _ (sym (c .before .before .cmp-rows .ensures) ∙ c .enum-told .given .1))
 
@@ -39,12 +21,12 @@ pub greater-row-spec : {M : Type 1} → statement M
 greater-row-spec =
     tie.close
     (tie.spec
-    cmp-rows-requires
-    enum-told
-    enum-told-2
-    enum-told-3
-    enum-told-4
-    slice-aggregate-result
+    (λ c κs. search needs)
+    (λ c. search needs)
+    (λ c. search needs)
+    (λ c. search needs)
+    (λ c. search needs)
+    (λ c. search needs)
     returns
     returns-2
     returns-3

@@ -19,23 +19,11 @@ returns c = compare-lengths _ _ (c .if1 .taken)
 loop-holds : tie.Need-loop-holds Inv-loop μ-loop
 loop-holds c = compare-start _ _
 
-sub-least : tie.Need-sub-least Inv-loop μ-loop
-sub-least c = omega arith
-
-least-requires : tie.Need-least-requires Inv-loop μ-loop
-least-requires c κs = search needs
-
-add-b : tie.Need-add-b Inv-loop μ-loop
-add-b c = omega arith
-
 differing-requires : tie.Need-differing-requires Inv-loop μ-loop
 differing-requires c κs = (omega arith, omega arith, omega arith)
 
 returns-2 : tie.Need-returns-2 Inv-loop μ-loop
 returns-2 c = compare-apart _ _ (c .before .differing .ensures) (c .if2 .taken)
-
-loop-less : tie.Need-loop-less Inv-loop μ-loop
-loop-less c = omega arith
 
 loop-again : tie.Need-loop-again Inv-loop μ-loop
 loop-again c = compare-turn _ _ (omega arith) (c .before .differing .ensures) (c .if2 .left) (c .before .before .before .before .loop .inv)
@@ -51,11 +39,11 @@ same-spec =
     μ-loop
     returns
     loop-holds
-    sub-least
-    least-requires
-    add-b
+    (λ c. omega arith)
+    (λ c κs. search needs)
+    (λ c. omega arith)
     differing-requires
     returns-2
-    loop-less
+    (λ c. omega arith)
     loop-again
     returns-3)

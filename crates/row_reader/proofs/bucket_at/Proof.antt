@@ -22,12 +22,6 @@ loop-holds c = reach-start _ _ (c .before .pre .1)
 next-row-one-requires : tie.Need-next-row-one-requires Inv-loop μ-loop
 next-row-one-requires c κs = (c .before .before .pre .0, c .loop .inv .ahead)
 
-enum-known-p : tie.Need-enum-known-p Inv-loop μ-loop
-enum-known-p c = search needs
-
-enum-told : tie.Need-enum-told Inv-loop μ-loop
-enum-told c = search needs
-
 returns : tie.Need-returns Inv-loop μ-loop
 returns c = reach-none (c .before .before .before .loop .inv) (c .enum-told .given .1) (c .before .before .next-row-one .ensures)
 
@@ -55,8 +49,8 @@ bucket-at-spec =
     μ-loop
     loop-holds
     next-row-one-requires
-    enum-known-p
-    enum-told
+    (λ c. search needs)
+    (λ c. search needs)
     returns
     returns-2
     sub-left

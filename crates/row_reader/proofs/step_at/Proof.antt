@@ -4,17 +4,8 @@ use Rattle.row_reader.proofs.Steps.{walks, bucket-fits, place-fits, giv
 use Rattle.row_reader.proofs.step_at.Statement.{statement}
 use Rattle.row_reader.proofs.step_at.Tie as tie
 
-row-requires : tie.Need-row-requires
-row-requires c κs = search needs
-
-enum-known-s : tie.Need-enum-known-s
-enum-known-s c = search needs
-
 bucket-at-requires : tie.Need-bucket-at-requires
 bucket-at-requires c κs = walks _ _ (c .before .before .before .row .ensures) (c .before .s .given .1)
-
-enum-known-p : tie.Need-enum-known-p
-enum-known-p c = search needs
 
 cast-t12 : tie.Need-cast-t12
 cast-t12 c =
@@ -27,12 +18,6 @@ add-t14 c =
     let k = c .before .before .before in
     let j = k .before .before in
     record { fits = place-fits _ _ (j .before .before .row .ensures) (j .s .given .1) _ (k .bucket-at .ensures) (c .before .p .given .1) }
-
-enum-told : tie.Need-enum-told
-enum-told c = search needs
-
-enum-known-r : tie.Need-enum-known-r
-enum-known-r c = search needs
 
 returns : tie.Need-returns
 returns c =
@@ -52,14 +37,14 @@ pub step-at-spec : {M : Type 1} → statement M
 step-at-spec =
     tie.close
     (tie.spec
-    row-requires
-    enum-known-s
+    (λ c κs. search needs)
+    (λ c. search needs)
     bucket-at-requires
-    enum-known-p
+    (λ c. search needs)
     cast-t12
     add-t14
-    enum-told
-    enum-known-r
+    (λ c. search needs)
+    (λ c. search needs)
     returns
     returns-2
     returns-3)

@@ -6,12 +6,6 @@ use borrow.Author.Needs.{needs}
 use Rattle.rows.proofs.open.Statement.{statement}
 use Rattle.rows.proofs.open.Tie as tie
 
-row-requires : tie.Need-row-requires
-row-requires c κs = search needs
-
-enum-known-layout : tie.Need-enum-known-layout
-enum-known-layout c = search needs
-
 count-ones-in-bytes-requires : tie.Need-count-ones-in-bytes-requires
 count-ones-in-bytes-requires c κs =
     let l = c .before in
@@ -23,9 +17,6 @@ add-t8 c =
     let l = c .before .before .before in
     let s = l .before .before .before .before in
     omega (arith, fits-few (s .args .config) (s .args .row .now) (l .before .before .row .ensures) (l .layout .given .1) (c .before .count-ones-in-bytes .ensures))
-
-enum-known-r : tie.Need-enum-known-r
-enum-known-r c = search needs
 
 returns : tie.Need-returns
 returns c =
@@ -43,10 +34,10 @@ pub open-spec : {M : Type 1} → statement M
 open-spec =
     tie.close
     (tie.spec
-    row-requires
-    enum-known-layout
+    (λ c κs. search needs)
+    (λ c. search needs)
     count-ones-in-bytes-requires
     add-t8
-    enum-known-r
+    (λ c. search needs)
     returns
     returns-2)

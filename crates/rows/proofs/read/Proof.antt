@@ -4,18 +4,6 @@ use borrow.Author.Needs.{needs}
 use Rattle.rows.proofs.read.Statement.{statement}
 use Rattle.rows.proofs.read.Tie as tie
 
-areas-requires : tie.Need-areas-requires
-areas-requires c κs = search needs
-
-enum-known-s : tie.Need-enum-known-s
-enum-known-s c = search needs
-
-row-requires : tie.Need-row-requires
-row-requires c κs = search needs
-
-enum-known-layout : tie.Need-enum-known-layout
-enum-known-layout c = search needs
-
 fill-requires : tie.Need-fill-requires
 fill-requires c κs =
     let l = c .before .before .before in
@@ -23,18 +11,6 @@ fill-requires c κs =
     let s = k .before .before .before .before .before .before in
     read-asks (s .args .config) (s .args .row .now) (s .args .top .now) (s .args .blocks .now) (k .before .before .areas .ensures) (k .s .given .1)
     (l .before .before .row .ensures) (l .layout .given .1)
-
-enum-known-r : tie.Need-enum-known-r
-enum-known-r c = search needs
-
-enum-known-r-2 : tie.Need-enum-known-r-2
-enum-known-r-2 c = search needs
-
-same-length : tie.Need-same-length
-same-length c = search needs
-
-same-length-2 : tie.Need-same-length-2
-same-length-2 c = search needs
 
 returns : tie.Need-returns
 returns c =
@@ -63,15 +39,15 @@ pub read-spec : {M : Type 1} → statement M
 read-spec =
     tie.close
     (tie.spec
-    areas-requires
-    enum-known-s
-    row-requires
-    enum-known-layout
+    (λ c κs. search needs)
+    (λ c. search needs)
+    (λ c κs. search needs)
+    (λ c. search needs)
     fill-requires
-    enum-known-r
-    enum-known-r-2
-    same-length
-    same-length-2
+    (λ c. search needs)
+    (λ c. search needs)
+    (λ c. search needs)
+    (λ c. search needs)
     returns
     returns-2
     returns-3)

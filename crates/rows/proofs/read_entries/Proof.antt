@@ -31,18 +31,6 @@ cast-top c =
     let s = k .before .before in
     omega (arith, entry-small (s .pre .0) (s .args .row .now) (λ i a. k .shared-slice-known .given i .fits) (l .loop .i * s .args .width) (c .row-entry .ensures))
 
-mul-top : tie.Need-mul-top Inv-loop μ-loop
-mul-top c = omega arith
-
-slice-write-top : tie.Need-slice-write-top Inv-loop μ-loop
-slice-write-top c = omega arith
-
-add-i : tie.Need-add-i Inv-loop μ-loop
-add-i c = omega arith
-
-loop-less : tie.Need-loop-less Inv-loop μ-loop
-loop-less c = omega arith
-
 loop-again : tie.Need-loop-again Inv-loop μ-loop
 loop-again c =
     let k = c .before .before in
@@ -50,9 +38,6 @@ loop-again c =
     fill-turn (c .row-entry .result) (s .pre .2) (c .before .loop-test .taken)
     (numbers-next (s .args .width) (k .loop .i) 0 (s .args .row .now) (k .loop .i * s .args .width) (c .row-entry .result) (omega arith) (c .row-entry .ensures))
     (k .loop .inv)
-
-same-length : tie.Need-same-length Inv-loop μ-loop
-same-length c = omega arith
 
 returns : tie.Need-returns Inv-loop μ-loop
 returns c = fill-end (c .loop-test .left) (c .before .loop .inv)
@@ -66,10 +51,10 @@ read-entries-spec =
     loop-holds
     row-entry-requires
     cast-top
-    mul-top
-    slice-write-top
-    add-i
-    loop-less
+    (λ c. omega arith)
+    (λ c. omega arith)
+    (λ c. omega arith)
+    (λ c. omega arith)
     loop-again
-    same-length
+    (λ c. omega arith)
     returns)

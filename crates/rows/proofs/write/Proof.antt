@@ -17,12 +17,6 @@ told k =
     let a = k .before .before .before .before .before .before .args in
     writable (a .f) (now (a .top)) (now (a .blocks)) (k .s .given .0 .0) (k .before .before .filter-lent .ensures) (k .s .given .1)
 
-filter-lent-requires : tie.Need-filter-lent-requires
-filter-lent-requires c κs = search needs
-
-enum-known-s : tie.Need-enum-known-s
-enum-known-s c = search needs
-
 row-len-requires : tie.Need-row-len-requires
 row-len-requires c κs =
     let R = told (c .before) in
@@ -39,9 +33,6 @@ write-entries-requires c κs =
     let R = told (c .before .before .before .before) in
     ((R .width, omega (arith, c .before .before .row-len .ensures)), (R .cells, R .fit))
 
-mul-write : tie.Need-mul-write
-mul-write c = search needs
-
 write-requires : tie.Need-write-requires
 write-requires c κs =
     let e = c .before .before .before .before .before in
@@ -49,12 +40,6 @@ write-requires c κs =
     let R = told (l .before .before) in
     let a = l .before .before .before .before .before .before .before .before .args in
     ((R .low, R .blocksIn), (R .clear, omega (arith, e .write-entries .kept .0, l .row-len .ensures, length-bitPart (a .f .boundary) (held (now (a .blocks))))))
-
-enum-known-r : tie.Need-enum-known-r
-enum-known-r c = search needs
-
-same-length : tie.Need-same-length
-same-length c = search needs
 
 returns-2 : tie.Need-returns-2
 returns-2 c =
@@ -77,14 +62,14 @@ pub write-spec : {M : Type 1} → statement M
 write-spec =
     tie.close
     (tie.spec
-    filter-lent-requires
-    enum-known-s
+    (λ c κs. search needs)
+    (λ c. search needs)
     row-len-requires
     returns
     write-entries-requires
-    mul-write
+    (λ c. search needs)
     write-requires
-    enum-known-r
-    same-length
+    (λ c. search needs)
+    (λ c. search needs)
     returns-2
     returns-3)

@@ -17,12 +17,6 @@ abbrev μ-loop : tie.MeasureT-loop
 loop-holds : tie.Need-loop-holds Inv-loop μ-loop
 loop-holds c = written-start _ _ _ _ _
 
-mul-write-entry : tie.Need-mul-write-entry Inv-loop μ-loop
-mul-write-entry c = omega arith
-
-shared-slice-read-write-entry : tie.Need-shared-slice-read-write-entry Inv-loop μ-loop
-shared-slice-read-write-entry c = omega arith
-
 write-entry-requires : tie.Need-write-entry-requires Inv-loop μ-loop
 write-entry-requires c κs =
     let k = c .before .before .before in
@@ -32,20 +26,11 @@ write-entry-requires c κs =
       entry-below (now (s .args .top)) (s .pre .1 .0) (c .before .before .loop-test .taken) (s .pre .1 .1),
     )
 
-add-i : tie.Need-add-i Inv-loop μ-loop
-add-i c = omega arith
-
-loop-less : tie.Need-loop-less Inv-loop μ-loop
-loop-less c = omega arith
-
 loop-again : tie.Need-loop-again Inv-loop μ-loop
 loop-again c =
     let k = c .before .before .before .before .before .before in
     let s = k .before .before .before in
     written-turn _ (k .loop .i * s .args .width) (s .pre .1 .0) (omega arith) (omega arith) (c .before .before .write-entry .ensures) (k .loop .inv)
-
-same-length : tie.Need-same-length Inv-loop μ-loop
-same-length c = omega arith
 
 returns : tie.Need-returns Inv-loop μ-loop
 returns c = written-end (c .loop-test .left) (c .before .loop .inv)
@@ -57,11 +42,11 @@ write-entries-spec =
     Inv-loop
     μ-loop
     loop-holds
-    mul-write-entry
-    shared-slice-read-write-entry
+    (λ c. omega arith)
+    (λ c. omega arith)
     write-entry-requires
-    add-i
-    loop-less
+    (λ c. omega arith)
+    (λ c. omega arith)
     loop-again
-    same-length
+    (λ c. omega arith)
     returns)

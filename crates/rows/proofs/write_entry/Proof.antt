@@ -39,9 +39,6 @@ cast-write-u16 c =
 write-u16-requires : tie.Need-write-u16-requires
 write-u16-requires c κs = in-two c
 
-same-length : tie.Need-same-length
-same-length c = search needs
-
 returns : tie.Need-returns
 returns c =
     let k = c .before .before in
@@ -53,9 +50,6 @@ mul-write-u32 c = omega (arith, c .before .before .before .good .0, in-four c)
 
 write-u32-requires : tie.Need-write-u32-requires
 write-u32-requires c κs = in-four c
-
-same-length-2 : tie.Need-same-length-2
-same-length-2 c = search needs
 
 returns-2 : tie.Need-returns-2
 returns-2 c =
@@ -70,9 +64,9 @@ write-entry-spec =
     mul-write-u16
     cast-write-u16
     write-u16-requires
-    same-length
+    (λ c. search needs)
     returns
     mul-write-u32
     write-u32-requires
-    same-length-2
+    (λ c. search needs)
     returns-2)

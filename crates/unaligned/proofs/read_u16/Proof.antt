@@ -7,17 +7,8 @@ use Rattle.unaligned.proofs.Little.{little-one, little-split}
 use Rattle.unaligned.proofs.read_u16.Statement.{statement}
 use Rattle.unaligned.proofs.read_u16.Tie as tie
 
-shared-slice-read-low : tie.Need-shared-slice-read-low
-shared-slice-read-low c = search needs
-
 cast-low : tie.Need-cast-low
 cast-low c = omega (arith, c .shared-slice-known .given (c .before .args .at))
-
-add-high : tie.Need-add-high
-add-high c = search needs
-
-shared-slice-read-high : tie.Need-shared-slice-read-high
-shared-slice-read-high c = search needs
 
 cast-high : tie.Need-cast-high
 cast-high c = omega (arith, c .shared-slice-known2 .given (c .before .before .args .at + 1))
@@ -40,10 +31,10 @@ pub read-u16-spec : {M : Type 1} → statement M
 read-u16-spec =
     tie.close
     (tie.spec
-    shared-slice-read-low
+    (λ c. search needs)
     cast-low
-    add-high
-    shared-slice-read-high
+    (λ c. search needs)
+    (λ c. search needs)
     cast-high
     mul-result
     add-result

@@ -8,23 +8,8 @@ use borrow.Author.Needs.{needs}
 use Rattle.unaligned.proofs.write_u16.Statement.{statement}
 use Rattle.unaligned.proofs.write_u16.Tie as tie
 
-cast-to : tie.Need-cast-to
-cast-to c = search needs
-
-slice-write-to : tie.Need-slice-write-to
-slice-write-to c = search needs
-
-cast-to-2 : tie.Need-cast-to-2
-cast-to-2 c = search needs
-
-add-to : tie.Need-add-to
-add-to c = search needs
-
 slice-write-to-2 : tie.Need-slice-write-to-2
 slice-write-to-2 c = simp length-set (omega arith)
-
-same-length : tie.Need-same-length
-same-length c = search needs
 
 returns : tie.Need-returns
 returns c =
@@ -34,4 +19,4 @@ returns c =
 pub write-u16-spec : {M : Type 1} → statement M
 write-u16-spec =
     tie.close
-    (tie.spec cast-to slice-write-to cast-to-2 add-to slice-write-to-2 same-length returns)
+    (tie.spec (λ c. search needs) (λ c. search needs) (λ c. search needs) (λ c. search needs) slice-write-to-2 (λ c. search needs) returns)

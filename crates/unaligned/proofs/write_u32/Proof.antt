@@ -9,24 +9,6 @@ use Rattle.unaligned.proofs.Little.{sets-split}
 use Rattle.unaligned.proofs.write_u32.Statement.{statement}
 use Rattle.unaligned.proofs.write_u32.Tie as tie
 
-cast-write-u16 : tie.Need-cast-write-u16
-cast-write-u16 c = search needs
-
-write-u16-requires : tie.Need-write-u16-requires
-write-u16-requires c κs = search needs
-
-add-write-u16 : tie.Need-add-write-u16
-add-write-u16 c = search needs
-
-cast-write-u16-2 : tie.Need-cast-write-u16-2
-cast-write-u16-2 c = search needs
-
-write-u16-requires-2 : tie.Need-write-u16-requires-2
-write-u16-requires-2 c κs = search needs
-
-same-length : tie.Need-same-length
-same-length c = search needs
-
 returns : tie.Need-returns
 returns c =
     let s = c .before .before .before .before .before .before .before .before .before in
@@ -38,10 +20,10 @@ pub write-u32-spec : {M : Type 1} → statement M
 write-u32-spec =
     tie.close
     (tie.spec
-    cast-write-u16
-    write-u16-requires
-    add-write-u16
-    cast-write-u16-2
-    write-u16-requires-2
-    same-length
+    (λ c. search needs)
+    (λ c κs. search needs)
+    (λ c. search needs)
+    (λ c. search needs)
+    (λ c κs. search needs)
+    (λ c. search needs)
     returns)

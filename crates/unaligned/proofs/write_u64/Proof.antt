@@ -9,24 +9,6 @@ use Rattle.unaligned.proofs.Little.{sets-split}
 use Rattle.unaligned.proofs.write_u64.Statement.{statement}
 use Rattle.unaligned.proofs.write_u64.Tie as tie
 
-cast-write-u32 : tie.Need-cast-write-u32
-cast-write-u32 c = search needs
-
-write-u32-requires : tie.Need-write-u32-requires
-write-u32-requires c κs = search needs
-
-add-write-u32 : tie.Need-add-write-u32
-add-write-u32 c = search needs
-
-cast-write-u32-2 : tie.Need-cast-write-u32-2
-cast-write-u32-2 c = search needs
-
-write-u32-requires-2 : tie.Need-write-u32-requires-2
-write-u32-requires-2 c κs = search needs
-
-same-length : tie.Need-same-length
-same-length c = search needs
-
 returns : tie.Need-returns
 returns c =
     let s = c .before .before .before .before .before .before .before .before .before in
@@ -38,10 +20,10 @@ pub write-u64-spec : {M : Type 1} → statement M
 write-u64-spec =
     tie.close
     (tie.spec
-    cast-write-u32
-    write-u32-requires
-    add-write-u32
-    cast-write-u32-2
-    write-u32-requires-2
-    same-length
+    (λ c. search needs)
+    (λ c κs. search needs)
+    (λ c. search needs)
+    (λ c. search needs)
+    (λ c κs. search needs)
+    (λ c. search needs)
     returns)

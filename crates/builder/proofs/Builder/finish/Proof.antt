@@ -5,26 +5,11 @@ use borrow.Author.Needs.{needs}
 use Rattle.builder.proofs.Builder.finish.Statement.{statement}
 use Rattle.builder.proofs.Builder.finish.Tie as tie
 
-builder-and-target-requires : tie.Need-builder-and-target-requires
-builder-and-target-requires c κs = search needs
-
-enum-known-s : tie.Need-enum-known-s
-enum-known-s c = search needs
-
 write-filter-requires : tie.Need-write-filter-requires
 write-filter-requires c κs =
     let k = c .before .before .before in
     let a = k .before .before .before .before .before .before .before .args in
     finish-asks (a .self) (a .pending .now) (a .bits .now) (a .top .now) (a .blocks .now) (k .s .given .0 .0) (sym (k .before .before .builder-and-target .ensures) ∙ k .s .given .1)
-
-enum-known-r : tie.Need-enum-known-r
-enum-known-r c = search needs
-
-same-length : tie.Need-same-length
-same-length c = search needs
-
-same-length-2 : tie.Need-same-length-2
-same-length-2 c = search needs
 
 returns : tie.Need-returns
 returns c =
@@ -41,11 +26,11 @@ pub finish-spec : {M : Type 1} → statement M
 finish-spec =
     tie.close
     (tie.spec
-    builder-and-target-requires
-    enum-known-s
+    (λ c κs. search needs)
+    (λ c. search needs)
     write-filter-requires
-    enum-known-r
-    same-length
-    same-length-2
+    (λ c. search needs)
+    (λ c. search needs)
+    (λ c. search needs)
     returns
     returns-2)

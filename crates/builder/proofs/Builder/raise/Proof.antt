@@ -6,20 +6,11 @@ use borrow.Author.Needs.{needs}
 use Rattle.builder.proofs.Builder.raise.Statement.{statement}
 use Rattle.builder.proofs.Builder.raise.Tie as tie
 
-builder-requires : tie.Need-builder-requires
-builder-requires c κs = search needs
-
-enum-known-s : tie.Need-enum-known-s
-enum-known-s c = search needs
-
 returns : tie.Need-returns
 returns c =
     let k = c .before .before .before in
     let a = k .before .before .before .before .before .args in
     raise-past (a .self) (a .pending .now) (a .bits .now) (a .to) (k .s .given .0 .0) (sym (k .before .before .builder .ensures) ∙ k .s .given .1) (c .if1 .taken)
-
-enum-known-r : tie.Need-enum-known-r
-enum-known-r c = search needs
 
 returns-2 : tie.Need-returns-2
 returns-2 c =
@@ -43,4 +34,4 @@ returns-4 c =
 pub raise-spec : {M : Type 1} → statement M
 raise-spec =
     tie.close
-    (tie.spec builder-requires enum-known-s returns enum-known-r returns-2 returns-3 returns-4)
+    (tie.spec (λ c κs. search needs) (λ c. search needs) returns (λ c. search needs) returns-2 returns-3 returns-4)

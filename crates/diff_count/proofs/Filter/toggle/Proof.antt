@@ -6,71 +6,49 @@ use borrow.Author.Needs.{needs}
 use Rattle.diff_count.proofs.Filter.toggle.Statement.{statement}
 use Rattle.diff_count.proofs.Filter.toggle.Tie as tie
 
-filter-requires : tie.Need-filter-requires
-filter-requires c κs = search needs
-
-enum-known-s : tie.Need-enum-known-s
-enum-known-s c = search needs
-
-all-below-requires : tie.Need-all-below-requires
-all-below-requires c κs = search needs
-
-same-length : tie.Need-same-length
-same-length c = search needs
-
-same-length-2 : tie.Need-same-length-2
-same-length-2 c = search needs
-
 returns : tie.Need-returns
 returns c =
-    toggle-past (c .before .before .before .before .before .before .before .before .before .before .before .args .self) (c .before .before .before .before .before .before .before .before .before .before .before .args .top .now) (c .before .before .before .before .before .before .before .before .before .before .before .args .blocks .now) (c .before .before .before .before .before .before .before .before .before .before .before .args .list .now) (c .before .before .before .s .given .0 .0) (sym (c .before .before .before .before .before .filter .ensures) ∙ c .before .before .before .s .given .1)
-    (sym (not-true (c .before .all-below .result) (c .if1 .taken)) ∙ c .before .all-below .ensures)
+    toggle-past _ _ _ _ _ (sym (c .before .before .before .before .before .filter .ensures) ∙ c .before .before .before .s .given .1)
+    (sym (not-true _ (c .if1 .taken)) ∙ c .before .all-below .ensures)
 
 flip-all-requires : tie.Need-flip-all-requires
 flip-all-requires c κs =
-    toggle-asks (c .before .before .before .before .before .before .before .before .before .before .before .before .before .args .self) (c .before .before .before .before .before .before .before .before .before .before .before .before .before .args .top .now) (c .before .before .before .before .before .before .before .before .before .before .before .before .before .args .blocks .now) (c .before .before .before .before .before .before .before .before .before .before .before .before .before .args .list .now) (c .before .before .before .before .before .s .given .0 .0) (sym (c .before .before .before .before .before .before .before .filter .ensures) ∙ c .before .before .before .before .before .s .given .1)
-    (sym (not-false (c .before .before .before .all-below .result) (c .before .before .if1 .left)) ∙ c .before .before .before .all-below .ensures)
-
-enum-known-r : tie.Need-enum-known-r
-enum-known-r c = search needs
-
-same-length-3 : tie.Need-same-length-3
-same-length-3 c = search needs
-
-same-length-4 : tie.Need-same-length-4
-same-length-4 c = search needs
+    let i = c .before .before in
+    let k = i .before .before .before in
+    let f = k .before .before in
+    let j = f .before .before .before in
+    let a = j .before .before .before in
+    toggle-asks _ _ _ (a .args .list .now) _ (sym (f .filter .ensures) ∙ k .s .given .1)
+    (sym (not-false _ (i .if1 .left)) ∙ i .before .all-below .ensures)
 
 returns-2 : tie.Need-returns-2
 returns-2 c =
-    toggle-ready (c .before .before .before .before .before .before .before .before .before .before .before .before .before .before .before .before .before .before .args .self) (c .before .before .before .before .before .before .before .before .before .before .before .before .before .before .before .before .before .before .args .top .now) (c .before .before .before .before .before .before .before .before .before .before .before .before .before .before .before .before .before .before .args .blocks .now) (c .before .before .before .before .before .before .before .before .before .before .before .before .before .before .before .before .before .before .args .list .now) (c .before .before .before .before .before .before .before .before .before .before .s .given .0 .0) (sym (c .before .before .before .before .before .before .before .before .before .before .before .before .filter .ensures) ∙ c .before .before .before .before .before .before .before .before .before .before .s .given .1)
-    (sym (not-false (c .before .before .before .before .before .before .before .before .all-below .result) (c .before .before .before .before .before .before .before .if1 .left)) ∙ c .before .before .before .before .before .before .before .before .all-below .ensures) (c .before .before .before .before .flip-all .ensures)
-
-same-length-5 : tie.Need-same-length-5
-same-length-5 c = search needs
-
-same-length-6 : tie.Need-same-length-6
-same-length-6 c = search needs
+    let f = c .before .before .before .before in
+    let i = f .before .before .before in
+    let k = i .before .before .before in
+    toggle-ready _ _ _ _ _ (sym (k .before .before .filter .ensures) ∙ k .s .given .1)
+    (sym (not-false _ (i .if1 .left)) ∙ i .before .all-below .ensures) (f .flip-all .ensures)
 
 returns-3 : tie.Need-returns-3
 returns-3 c =
-    toggle-refused (c .before .before .before .before .before .before .before .before .before .args .self) (c .before .before .before .before .before .before .before .before .before .args .top .now) (c .before .before .before .before .before .before .before .before .before .args .blocks .now) (c .before .before .before .before .before .before .before .before .before .args .list .now) (c .before .r .given .0 .0)
+    toggle-refused _ _ _ _ _
     (sym (c .before .before .before .filter .ensures) ∙ c .before .r .given .1)
 
 pub toggle-spec : {M : Type 1} → statement M
 toggle-spec =
     tie.close
     (tie.spec
-    filter-requires
-    enum-known-s
-    all-below-requires
-    same-length
-    same-length-2
+    (λ c κs. search needs)
+    (λ c. search needs)
+    (λ c κs. search needs)
+    (λ c. search needs)
+    (λ c. search needs)
     returns
     flip-all-requires
-    enum-known-r
-    same-length-3
-    same-length-4
+    (λ c. search needs)
+    (λ c. search needs)
+    (λ c. search needs)
     returns-2
-    same-length-5
-    same-length-6
+    (λ c. search needs)
+    (λ c. search needs)
     returns-3)
