@@ -16,7 +16,7 @@ ghost use Rattle.sets.specs.Row.{little, numbers};
 ghost use Rattle.bitchunks.specs.Walk.{bitsAt, filterSet, merged, Ahead, Bounded, Merging, Next, Passed, Reached, Walks};
 ghost use Rattle.bitchunks.specs.Xor.{NextApart};
 ghost use Rattle.bitchunks.specs.Rows.{Fitting, RowWalks, blocks, entries, rowSet};
-ghost use Rattle.bitchunks.specs.Mask.{Laid};
+ghost use Rattle.bitchunks.specs.Mask.{LaidMask};
 ghost use Rattle.bitchunks.specs.Ones.{Gives, NextKept, rest};
 ghost use Rattle.bitchunks.specs.Counts.{FirstOf, LimitedTo};
 
@@ -388,7 +388,8 @@ pub fn repeat_mask(mask: u64, size: usize) -> u64
 
 // The same, turned to the block of this number: digit j is the mask's digit (64·index + j) mod size.
 fn turn_mask(block: u64, size: usize, index: usize) -> u64
-    requires { ⌜ (1 ≤ size) × (size ≤ largestMaskSize) × Laid size block × (64 * index ≤ 2 ^ 32) ⌝ }
+    requires { ⌜ LaidMask size block ⌝ }
+    requires { ⌜ 64 * index ≤ 2 ^ 32 ⌝ }
     ensures { λ r. ⌜ r ≡ blockAt (laid block size) index ⌝ }
 {
     let shift = (64 * index) % size;
@@ -397,7 +398,8 @@ fn turn_mask(block: u64, size: usize, index: usize) -> u64
 
 // What the mask keeps of the block of this number. Of an empty block it keeps nothing, and the division is spared.
 pub fn masked_block(block: u64, block_mask: u64, size: usize, index: usize) -> u64
-    requires { ⌜ (1 ≤ size) × (size ≤ largestMaskSize) × Laid size «block_mask» × (64 * index ≤ 2 ^ 32) ⌝ }
+    requires { ⌜ LaidMask size «block_mask» ⌝ }
+    requires { ⌜ 64 * index ≤ 2 ^ 32 ⌝ }
     ensures { λ r. ⌜ r ≡ bitAnd block (blockAt (laid «block_mask» size) index) ⌝ }
 {
     if block == 0 {
@@ -417,7 +419,7 @@ pub fn next_masked_chunk(
     from: Cursor,
 ) -> NextChunk
     requires { ⌜ Walks (now top) count (now blocks) n (from .passed) (from .end) ⌝ }
-    requires { ⌜ (1 ≤ size) × (size ≤ largestMaskSize) × Laid size «block_mask» ⌝ }
+    requires { ⌜ LaidMask size «block_mask» ⌝ }
     ensures { λ r. ⌜ NextKept (kept «block_mask» size (filterSet (now (top .entry)) count (now (blocks .entry)) n))
         (take count (now (top .entry))) (from .end) r ⌝ }
 {
@@ -469,7 +471,7 @@ pub fn next_one(
     from: Ones,
 ) -> NextOne
     requires { ⌜ Walks (now top) count (now blocks) n (from .passed) (from .end) ⌝ }
-    requires { ⌜ (1 ≤ size) × (size ≤ largestMaskSize) × Laid size «block_mask» ⌝ }
+    requires { ⌜ LaidMask size «block_mask» ⌝ }
     ensures { λ r. ⌜ Gives (kept «block_mask» size (filterSet (now (top .entry)) count (now (blocks .entry)) n))
         (take count (now (top .entry)))
         (rest (kept «block_mask» size (filterSet (now (top .entry)) count (now (blocks .entry)) n)) (from .end) (from .block)) r ⌝ }

@@ -2,9 +2,9 @@
 ghost use mathlib.Core.Path.{_≡_};
 ghost use Prim.Native.Nat.{_*_, _≤_};
 ghost use Rattle.sets.specs.Sets.{members};
-ghost use Rattle.sets.specs.Masks.{kept, largestMaskSize, orderOf};
+ghost use Rattle.sets.specs.Masks.{kept, orderOf};
 ghost use Rattle.bitchunks.specs.Walk.{Walks, filterSet};
-ghost use Rattle.bitchunks.specs.Mask.{Laid};
+ghost use Rattle.bitchunks.specs.Mask.{LaidMask};
 ghost use Rattle.masked.specs.Calls.{cmpOf, keyFor};
 ghost use Rattle.masked.specs.Inner.{Decides, decided, orderTold, keyTold};
 use bitchunks::Cursors;
@@ -50,7 +50,7 @@ fn deciding_block(
 ) -> Deciding
     requires { ⌜ Walks (now top) count (now blocks) n 0 k ⌝ }
     requires { ⌜ Walks (now top2) count2 (now blocks2) n2 0 k ⌝ }
-    requires { ⌜ (1 ≤ size) × (size ≤ largestMaskSize) × Laid size «block_mask» ⌝ }
+    requires { ⌜ LaidMask size «block_mask» ⌝ }
     ensures { λ r. ⌜ Decides «block_mask» size
         (filterSet (now (top .entry)) count (now (blocks .entry)) n)
         (filterSet (now (top2 .entry)) count2 (now (blocks2 .entry)) n2) k r ⌝ }
@@ -109,7 +109,7 @@ fn order(
 ) -> OrderAnswer
     requires { ⌜ Walks (now top) count (now blocks) n 0 k ⌝ }
     requires { ⌜ Walks (now top2) count2 (now blocks2) n2 0 k ⌝ }
-    requires { ⌜ (1 ≤ size) × (size ≤ largestMaskSize) × Laid size «block_mask» ⌝ }
+    requires { ⌜ LaidMask size «block_mask» ⌝ }
     ensures { λ r. ⌜ r ≡ orderTold (orderOf (64 * k) «block_mask» size
         (filterSet (now (top .entry)) count (now (blocks .entry)) n) (filterSet (now (top2 .entry)) count2 (now (blocks2 .entry)) n2)) ⌝ }
 {
@@ -140,7 +140,7 @@ fn pack(
     bits: usize,
 ) -> KeyAnswer
     requires { ⌜ Walks (now top) count (now blocks) n 0 k ⌝ }
-    requires { ⌜ (1 ≤ size) × (size ≤ largestMaskSize) × Laid size «block_mask» ⌝ }
+    requires { ⌜ LaidMask size «block_mask» ⌝ }
     requires { ⌜ (1 ≤ bits) × (bits ≤ 63) ⌝ }
     ensures { λ r. ⌜ r ≡ keyTold bits
         (members (kept «block_mask» size (filterSet (now (top .entry)) count (now (blocks .entry)) n)) (64 * k)) ⌝ }

@@ -2,10 +2,10 @@
 ghost use mathlib.Core.Path.{_≡_};
 ghost use Prim.Native.Nat.{_*_, _≤_};
 ghost use lib.ListN.{length};
-ghost use Rattle.sets.specs.Masks.{largestMaskSize, orderOf};
+ghost use Rattle.sets.specs.Masks.{orderOf};
 ghost use Rattle.bitvec.specs.Cells.{Gathered, xored};
 ghost use Rattle.bitchunks.specs.Rows.{RowWalks, rowSet};
-ghost use Rattle.bitchunks.specs.Mask.{Laid};
+ghost use Rattle.bitchunks.specs.Mask.{LaidMask};
 ghost use Rattle.judge.specs.Judging.{Tells};
 ghost use Rattle.masked.specs.Inner.{Decides, orderTold};
 ghost use Rattle.row_order.specs.Calls.{cmpRowsOf, greaterOf, seen};
@@ -31,7 +31,7 @@ fn deciding_block(
 ) -> Deciding
     requires { ⌜ RowWalks layout (now first) 0 k ⌝ }
     requires { ⌜ RowWalks layout2 (now second) 0 k ⌝ }
-    requires { ⌜ (1 ≤ size) × (size ≤ largestMaskSize) × Laid size «block_mask» ⌝ }
+    requires { ⌜ LaidMask size «block_mask» ⌝ }
     ensures { λ r. ⌜ Decides «block_mask» size (rowSet layout (now (first .entry))) (rowSet layout2 (now (second .entry))) k r ⌝ }
 {
     let mut at = Cursors {
@@ -67,7 +67,7 @@ fn order(
 ) -> OrderAnswer
     requires { ⌜ RowWalks layout (now first) 0 k ⌝ }
     requires { ⌜ RowWalks layout2 (now second) 0 k ⌝ }
-    requires { ⌜ (1 ≤ size) × (size ≤ largestMaskSize) × Laid size «block_mask» ⌝ }
+    requires { ⌜ LaidMask size «block_mask» ⌝ }
     ensures { λ r. ⌜ r ≡ orderTold (orderOf (64 * k) «block_mask» size
         (rowSet layout (now (first .entry))) (rowSet layout2 (now (second .entry)))) ⌝ }
 {
@@ -116,7 +116,7 @@ fn order_judged(
     first: &[u8],
     second: &[u8],
 ) -> OrderAnswer
-    requires { ⌜ (1 ≤ size) × (size ≤ largestMaskSize) × Laid size «block_mask» ⌝ }
+    requires { ⌜ LaidMask size «block_mask» ⌝ }
     ensures { λ r. ⌜ r ≡ judgedOf config «block_mask» size (now (first .entry)) (now (second .entry)) ⌝ }
 {
     match judge_row::row(config, first) {

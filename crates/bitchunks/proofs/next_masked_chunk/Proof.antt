@@ -26,7 +26,7 @@ masked-block-requires c κs =
     let k = c .before in
     let t = k .before .before .before .loop .inv in
     let s = k .before .before .before .before .before .before in
-    (s .pre .1 .0, s .pre .1 .1, s .pre .1 .2, omega (arith, t .ahead .small, skip-under t (k .block .given .1) (k .before .before .next-chunk .ensures)))
+    (s .pre .1, omega (arith, t .ahead .small, skip-under t (k .block .given .1) (k .before .before .next-chunk .ensures)))
 
 returns : tie.Need-returns Inv-loop μ-loop
 returns c =

@@ -7,13 +7,13 @@ use Rattle.bitchunks.proofs.turn_mask.Statement.{statement}
 use Rattle.bitchunks.proofs.turn_mask.Tie as tie
 
 shr-result : tie.Need-shr-result
-shr-result c = lt-of-lt-of-le (mod-lt _ (c .pre .0)) (omega arith)
+shr-result c = lt-of-lt-of-le (mod-lt _ (c .pre .0 .0)) (omega arith)
 
 sub-result : tie.Need-sub-result
-sub-result c = le-of-lt (mod-lt _ (c .pre .0))
+sub-result c = le-of-lt (mod-lt _ (c .pre .0 .0))
 
 returns : tie.Need-returns
-returns c = turned _ _ _ (c .pre .0) (c .pre .1) (c .pre .2)
+returns c = turned _ _ _ (c .pre .0 .0) (c .pre .0 .1) (c .pre .0 .2)
 
 pub turn-mask-spec : {M : Type 1} → statement M
 turn-mask-spec = tie.close (tie.spec (λ c. search needs) (λ c. search needs) shr-result sub-result (λ c. search needs) returns)

@@ -23,7 +23,7 @@ masked-block-requires c κs =
     let k = c .before in
     let t = k .before .before .before .loop .inv in
     let s = k .before .before .before .before .before .before .before .before in
-    (s .pre .1 .1 .0, s .pre .1 .1 .1, s .pre .1 .1 .2, differ-step t (k .block .given .1) (k .before .before .next-xor-chunk .ensures) .ahead .small)
+    (s .pre .1 .1, differ-step t (k .block .given .1) (k .before .before .next-xor-chunk .ensures) .ahead .small)
 
 loop-less : tie.Need-loop-less Inv-loop μ-loop
 loop-less c =

@@ -23,7 +23,7 @@ masked-block-requires c κs =
     let k = c .before in
     let s = k .before .before .before .before .before .before in
     let x = differ-step (k .before .before .before .loop .inv) (k .block .given .1) (k .before .before .next-row-xor-chunk .ensures) in
-    (s .pre .1 .1 .0, s .pre .1 .1 .1, s .pre .1 .1 .2, omega (arith, x .ahead .small))
+    (s .pre .1 .1, omega (arith, x .ahead .small))
 
 loop-less : tie.Need-loop-less Inv-loop μ-loop
 loop-less c =
