@@ -8,7 +8,8 @@ use Rattle.sets.specs.Text.{Mask, largestInput}
 use Rattle.diff_count.specs.declared.Filter.{Filter}
 use Rattle.lines.specs.Lines.{maskIn}
 use Rattle.compare_text.specs.Answers.{Areas}
-use Rattle.compare_text.proofs.Judging.{Line, Read, first-asks, first-judged, first-missing, first-refused, line-ends, line-fits, line-length, no-line, row-read, row-refused}
+use Rattle.compare_text.proofs.Judging.{Line, Read, first-asks, first-judged, first-missing, first-refused, line-ends, line-fits}
+use Rattle.compare_text.proofs.Judging.{line-length, no-line, row-read, row-refused}
 use borrow.Author.Needs.{needs}
 use Rattle.compare_text.proofs.first_row.Statement.{statement}
 use Rattle.compare_text.proofs.first_row.Tie as tie
@@ -21,8 +22,14 @@ use Rattle.lines.proofs.row_line.Reads as row-line-reads
 -- the place where the line has its end
 abbrev Ended : Type 0
 Ended =
-    lts.After-known-told
-    (find-reads.Asked, find-reads.Learnt, row-line-reads.Asked, row-line-reads.Learnt, second-row-reads.Asked, second-row-reads.Learnt) reads.Pre reads.Post
+    lts.After-known-told (
+      find-reads.Asked,
+      find-reads.Learnt,
+      row-line-reads.Asked,
+      row-line-reads.Learnt,
+      second-row-reads.Asked,
+      second-row-reads.Learnt,
+    ) reads.Pre reads.Post
 
 module _ (k : Ended) where
   abbrev n : ℕ
@@ -49,8 +56,14 @@ module _ (k : Ended) where
 -- the place where the row is read
 abbrev Given : Type 0
 Given =
-    lts.After-known-told2
-    (find-reads.Asked, find-reads.Learnt, row-line-reads.Asked, row-line-reads.Learnt, second-row-reads.Asked, second-row-reads.Learnt) reads.Pre reads.Post
+    lts.After-known-told2 (
+      find-reads.Asked,
+      find-reads.Learnt,
+      row-line-reads.Asked,
+      row-line-reads.Learnt,
+      second-row-reads.Asked,
+      second-row-reads.Learnt,
+    ) reads.Pre reads.Post
 
 module _ (k : Given) where
   abbrev f : Filter
@@ -62,16 +75,20 @@ module _ (k : Given) where
   abbrev bits : List ℕ
   bits = k .before .before .before .before .before .row-line .last .1 .1 .1 .0
 
-  read : Read (n (k .before .before .before .before .before .before .before .before .before)) (take (end (k .before .before .before .before .before .before .before .before .before)) (s (k .before .before .before .before .before .before .before .before .before))) f top bits
+  read : Read (n (k .before .before .before .before .before .before .before .before .before))
+      (take (end (k .before .before .before .before .before .before .before .before .before))
+      (s (k .before .before .before .before .before .before .before .before .before))) f top bits
   read =
       let w = k .before .before .before .before .before .row-line in
-      row-read (n (k .before .before .before .before .before .before .before .before .before)) (take (end (k .before .before .before .before .before .before .before .before .before)) (s (k .before .before .before .before .before .before .before .before .before))) _ _ (w .result) top bits (w .ensures) f (k .before .f .given .1) (areas (k .before .before .before .before .before .before .before .before .before))
+      row-read (n (k .before .before .before .before .before .before .before .before .before))
+      (take (end (k .before .before .before .before .before .before .before .before .before))
+      (s (k .before .before .before .before .before .before .before .before .before))) _ _ (w .result) top bits (w .ensures) f
+      (k .before .f .given .1) (areas (k .before .before .before .before .before .before .before .before .before))
 
 returns : tie.Need-returns
 returns c =
-    let a = c .before .before .before .before .args in
     let f = c .before .before .find in
-    first-missing (a .config) (maskIn (a .m)) (a .input .now) (no-line (a .input .now) (f .result) (f .ensures) (c .enum-told .given .1))
+    first-missing _ (maskIn _) _ (no-line _ _ (f .ensures) (c .enum-told .given .1))
 
 add-next : tie.Need-add-next
 add-next c = omega (arith, ended c .inside, few c)
@@ -87,30 +104,42 @@ row-line-requires c κs =
     (line-fits (s k) (end k) (ended k) (few k), areas k)
 
 sub-second-row : tie.Need-sub-second-row
-sub-second-row c = omega (arith, ended (c .before .before .before .before .before .before .before .before .before .before .before) .inside)
+sub-second-row c =
+    let k = c .before .before .before .before .before in
+    let j = k .before .before .before in
+    let u = j .before .before .before in
+    omega (arith, ended u .inside)
 
 part-second-row-start : tie.Need-part-second-row-start
-part-second-row-start c = omega (arith, ended (c .before .before .before .before .before .before .before .before .before .before .before) .inside)
+part-second-row-start c =
+    let k = c .before .before .before .before .before in
+    let j = k .before .before .before in
+    let u = j .before .before .before in
+    omega (arith, ended u .inside)
 
 second-row-requires : tie.Need-second-row-requires
 second-row-requires c κs =
     let k = c .before .before .before in
-    let j = k .before .before .before .before .before .before .before .before .before in
-    first-asks (n j) (m j) (s j) (end j) (ended j) (f k) (top k) (bits k) (read k) (few j) (areas j) (k .before .before .before .before .before .before .before .before .before .before .before .before .before .before .pre .2)
+    let j = k .before .before .before .before .before in
+    let u = j .before .before .before .before in
+    let v = u .before .before .before .before .before in
+    first-asks (n u) (m u) (s u) (end u) (ended u) (f k) (top k) (bits k) (read k) (few u) (areas u) (v .pre .2)
 
 returns-2 : tie.Need-returns-2
 returns-2 c =
     let k = c .before .before .before .before in
-    let j = k .before .before .before .before .before .before .before .before .before in
-    first-judged (n j) (m j) (s j) (end j) (ended j) (f k) (top k) (bits k) (read k) (c .second-row .result) (c .second-row .ensures)
+    let j = k .before .before .before .before .before in
+    let u = j .before .before .before .before in
+    first-judged (n u) (m u) (s u) (end u) (ended u) (f k) (top k) (bits k) (read k) _ (c .second-row .ensures)
 
 returns-3 : tie.Need-returns-3
 returns-3 c =
-    let j = c .before .before .before .before .before .before .before .before .before in
-    let w = c .before .before .before .before .before .row-line in
+    let r = c .before .before .before .before .before in
+    let j = r .before .before .before .before in
+    let w = r .row-line in
     let x = c .before .r .given in
     first-refused (n j) (m j) (s j) (end j) (ended j) (x .0 .0 .number)
-    (row-refused (n j) (take (end j) (s j)) _ _ (w .result) _ _ (w .ensures) (x .0 .0) 3 (x .1))
+    (row-refused (n j) (take (end j) (s j)) _ _ _ _ _ (w .ensures) (x .0 .0) 3 (x .1))
 
 pub first-row-spec : {M : Type 1} → statement M
 first-row-spec =

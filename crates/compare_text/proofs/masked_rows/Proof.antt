@@ -7,7 +7,8 @@ use lib.ListN.{length, take}
 use Rattle.sets.specs.Text.{Mask, is, largestInput, maskLine}
 use Rattle.lines.specs.Lines.{maskIn, maskTold}
 use Rattle.lines.proofs.Judged.{mask-fits}
-use Rattle.compare_text.proofs.Judging.{Line, line-ends, line-length, masked-judged, masked-missing, masked-refused, no-line, rest-fits}
+use Rattle.compare_text.proofs.Judging.{Line, line-ends, line-length, masked-judged, masked-missing, masked-refused, no-line}
+use Rattle.compare_text.proofs.Judging.{rest-fits}
 use borrow.Author.Needs.{needs}
 use Rattle.compare_text.proofs.masked_rows.Statement.{statement}
 use Rattle.compare_text.proofs.masked_rows.Tie as tie
@@ -20,8 +21,14 @@ use Rattle.lines.proofs.mask_line.Reads as mask-line-reads
 -- the place where the line has its end
 abbrev Ended : Type 0
 Ended =
-    lts.After-known-told
-    (find-reads.Asked, find-reads.Learnt, mask-line-reads.Asked, mask-line-reads.Learnt, first-row-reads.Asked, first-row-reads.Learnt) reads.Pre reads.Post
+    lts.After-known-told (
+      find-reads.Asked,
+      find-reads.Learnt,
+      mask-line-reads.Asked,
+      mask-line-reads.Learnt,
+      first-row-reads.Asked,
+      first-row-reads.Learnt,
+    ) reads.Pre reads.Post
 
 module _ (k : Ended) where
   abbrev n : ℕ
@@ -42,8 +49,14 @@ module _ (k : Ended) where
 -- the place where the mask is known
 abbrev Given : Type 0
 Given =
-    lts.After-known-told2
-    (find-reads.Asked, find-reads.Learnt, mask-line-reads.Asked, mask-line-reads.Learnt, first-row-reads.Asked, first-row-reads.Learnt) reads.Pre reads.Post
+    lts.After-known-told2 (
+      find-reads.Asked,
+      find-reads.Learnt,
+      mask-line-reads.Asked,
+      mask-line-reads.Learnt,
+      first-row-reads.Asked,
+      first-row-reads.Learnt,
+    ) reads.Pre reads.Post
 
 module _ (k : Given) where
   abbrev m : Mask
@@ -54,9 +67,8 @@ module _ (k : Given) where
 
 returns : tie.Need-returns
 returns c =
-    let a = c .before .before .before .before .args in
     let f = c .before .before .find in
-    masked-missing (a .config) (a .input .now) (no-line (a .input .now) (f .result) (f .ensures) (c .enum-told .given .1))
+    masked-missing _ _ (no-line _ _ (f .ensures) (c .enum-told .given .1))
 
 add-next : tie.Need-add-next
 add-next c = omega (arith, ended c .inside, few c)
@@ -74,21 +86,28 @@ part-first-row-start c = omega (arith, ended (c .before .before .before .before 
 
 first-row-requires : tie.Need-first-row-requires
 first-row-requires c κs =
-    let k = c .before in
-    let j = k .before .before .before .before .before in
-    (rest-fits (s j) (end j) (ended j) (few j), j .before .before .before .before .before .pre .1, mask-fits (take (end j) (s j)) (m k) (told k))
+    let k = c .before .before .before in
+    let j = k .before .before .before in
+    let u = j .before .before .before .before .before in (
+      rest-fits (s j) (end j) (ended j) (few j),
+      u .pre .1,
+      mask-fits (take (end j) (s j)) (m (c .before))
+          (told (c .before)),
+    )
 
 returns-2 : tie.Need-returns-2
 returns-2 c =
     let k = c .before .before in
     let j = k .before .before .before .before .before in
-    masked-judged (n j) (s j) (end j) (ended j) (m k) (c .first-row .result) (told k) (c .first-row .ensures)
+    masked-judged (n j) (s j) (end j) (ended j) (m k) _ (told k) (c .first-row .ensures)
 
 returns-3 : tie.Need-returns-3
 returns-3 c =
-    let j = c .before .before .before .before .before in
+    let l = c .before .before .before in
+    let j = l .before .before in
     let x = c .before .r .given in
-    masked-refused (n j) (s j) (end j) (ended j) (x .0 .0 .number) (sym (c .before .before .before .mask-line .ensures) ∙ ap maskTold (x .1))
+    masked-refused (n j) (s j) (end j) (ended j) (x .0 .0 .number)
+    (sym (l .mask-line .ensures) ∙ ap maskTold (x .1))
 
 pub masked-rows-spec : {M : Type 1} → statement M
 masked-rows-spec =

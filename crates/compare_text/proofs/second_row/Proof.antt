@@ -10,7 +10,8 @@ use Rattle.diff_count.specs.Calls.{shownBy}
 use Rattle.diff_count.specs.declared.Filter.{Filter}
 use Rattle.lines.specs.Lines.{maskIn}
 use Rattle.compare_text.specs.Answers.{Areas}
-use Rattle.compare_text.proofs.Judging.{Line, Read, figures-asks, line-ends, line-fits, line-length, no-line, row-read, row-refused, second-followed, second-judged, second-missing, second-refused}
+use Rattle.compare_text.proofs.Judging.{Line, Read, figures-asks, line-ends, line-fits, line-length, no-line, row-read, row-refused}
+use Rattle.compare_text.proofs.Judging.{second-followed, second-judged, second-missing, second-refused}
 use borrow.Author.Needs.{needs}
 use Rattle.compare_text.proofs.second_row.Statement.{statement}
 use Rattle.compare_text.proofs.second_row.Tie as tie
@@ -23,8 +24,14 @@ use Rattle.lines.proofs.row_line.Reads as row-line-reads
 -- the place where the line has its end
 abbrev Ended : Type 0
 Ended =
-    lts.After-known-told
-    (find-reads.Asked, find-reads.Learnt, row-line-reads.Asked, row-line-reads.Learnt, figures-of-reads.Asked, figures-of-reads.Learnt) reads.Pre reads.Post
+    lts.After-known-told (
+      find-reads.Asked,
+      find-reads.Learnt,
+      row-line-reads.Asked,
+      row-line-reads.Learnt,
+      figures-of-reads.Asked,
+      figures-of-reads.Learnt,
+    ) reads.Pre reads.Post
 
 module _ (k : Ended) where
   abbrev n : ℕ
@@ -34,7 +41,10 @@ module _ (k : Ended) where
   m = maskIn (k .before .before .before .before .before .before .before .args .m)
 
   abbrev S : Set
-  S = shownBy (k .before .before .before .before .before .before .before .args .f) (k .before .before .before .before .before .before .before .args .top .now) (k .before .before .before .before .before .before .before .args .blocks .now)
+  S =
+      shownBy (k .before .before .before .before .before .before .before .args .f)
+      (k .before .before .before .before .before .before .before .args .top .now)
+      (k .before .before .before .before .before .before .before .args .blocks .now)
 
   abbrev s : List ℕ
   s = k .before .before .before .before .before .before .before .args .input .now
@@ -54,8 +64,14 @@ module _ (k : Ended) where
 -- the place where the row is read
 abbrev Given : Type 0
 Given =
-    lts.After-known-told2
-    (find-reads.Asked, find-reads.Learnt, row-line-reads.Asked, row-line-reads.Learnt, figures-of-reads.Asked, figures-of-reads.Learnt) reads.Pre reads.Post
+    lts.After-known-told2 (
+      find-reads.Asked,
+      find-reads.Learnt,
+      row-line-reads.Asked,
+      row-line-reads.Learnt,
+      figures-of-reads.Asked,
+      figures-of-reads.Learnt,
+    ) reads.Pre reads.Post
 
 module _ (k : Given) where
   abbrev g : Filter
@@ -67,17 +83,23 @@ module _ (k : Given) where
   abbrev bits2 : List ℕ
   bits2 = k .before .before .before .before .before .row-line .last .1 .1 .1 .0
 
-  read : Read (n (k .before .before .before .before .before .before .before .before .before)) (take (end (k .before .before .before .before .before .before .before .before .before)) (s (k .before .before .before .before .before .before .before .before .before))) g top2 bits2
+  read : Read (n (k .before .before .before .before .before .before .before .before .before))
+      (take (end (k .before .before .before .before .before .before .before .before .before))
+      (s (k .before .before .before .before .before .before .before .before .before))) g top2 bits2
   read =
       let w = k .before .before .before .before .before .row-line in
-      row-read (n (k .before .before .before .before .before .before .before .before .before)) (take (end (k .before .before .before .before .before .before .before .before .before)) (s (k .before .before .before .before .before .before .before .before .before))) _ _ (w .result) top2 bits2 (w .ensures) g (k .before .g .given .1) (areas (k .before .before .before .before .before .before .before .before .before))
+      row-read (n (k .before .before .before .before .before .before .before .before .before))
+      (take (end (k .before .before .before .before .before .before .before .before .before))
+      (s (k .before .before .before .before .before .before .before .before .before))) _ _ (w .result) top2 bits2 (w .ensures) g
+      (k .before .g .given .1) (areas (k .before .before .before .before .before .before .before .before .before))
 
 returns : tie.Need-returns
 returns c =
-    let a = c .before .before .before .before .before .before .args in
-    let f = c .before .before .find in
-    second-missing (a .f .config) (maskIn (a .m)) (shownBy (a .f) (a .top .now) (a .blocks .now)) (a .input .now)
-    (no-line (a .input .now) (f .result) (f .ensures) (c .enum-told .given .1))
+    let k = c .before .before in
+    let a = k .before .before .before .before .args in
+    let f = k .find in
+    second-missing (a .f .config) (maskIn _) (shownBy (a .f) (a .top .now) _) _
+    (no-line _ _ (f .ensures) (c .enum-told .given .1))
 
 slice-aggregate-row-line : tie.Need-slice-aggregate-row-line
 slice-aggregate-row-line c =
@@ -91,35 +113,42 @@ row-line-requires c κs =
 
 add-if1 : tie.Need-add-if1
 add-if1 c =
-    let k = c .before .before .before .before .before .before .before .before .before in
-    omega (arith, ended k .inside, few k)
+    let k = c .before .before .before .before .before in
+    let i = k .before .before .before .before in
+    omega (arith, ended i .inside, few i)
 
 returns-2 : tie.Need-returns-2
 returns-2 c =
-    let k = c .before in
-    let j = k .before .before .before .before .before .before .before .before .before in
-    second-followed (n j) (m j) (S j) (s j) (end j) (ended j) (g k) (top2 k) (bits2 k) (read k) (c .if1 .taken)
+    let k = c .before .before .before .before .before in
+    let j = k .before .before .before .before .before in
+    second-followed (n j) (m j) (S j) (s j) (end j) (ended j) (g (c .before)) (top2 (c .before)) (bits2 (c .before))
+    (read (c .before)) (c .if1 .taken)
 
 figures-of-requires : tie.Need-figures-of-requires
 figures-of-requires c κs =
     let k = c .before .before .before in
-    let q = k .before .before .before .before .before .before .before .before .before .before .before .before .before .before .before .before in
-    let a = q .args in
-    figures-asks (a .f) (a .top .now) (a .blocks .now) (take (end (k .before .before .before .before .before .before .before .before .before)) (s (k .before .before .before .before .before .before .before .before .before))) (g k) (top2 k) (bits2 k) (m (k .before .before .before .before .before .before .before .before .before)) (q .pre .1 .0) (read k) (q .pre .1 .1)
+    let j = k .before .before .before .before .before in
+    let u = j .before .before .before .before in
+    let v = u .before .before .before .before in
+    let q = v .before .before .before in
+    figures-asks _ _ _ (take (end u) (s u)) (g k) (top2 k) (bits2 k) (m u) (q .pre .1 .0) (read k) (q .pre .1 .1)
 
 returns-3 : tie.Need-returns-3
 returns-3 c =
-    let k = c .before .before .before .before in
-    let j = k .before .before .before .before .before .before .before .before .before in
-    second-judged (n j) (m j) (S j) (s j) (end j) (ended j) (g k) (top2 k) (bits2 k) (read k) (c .figures-of .result) (c .before .before .before .if1 .left) (c .figures-of .ensures)
+    let i = c .before .before .before in
+    let k = i .before .before .before .before .before in
+    let j = k .before .before .before .before .before in
+    second-judged (n j) (m j) (S j) (s j) (end j) (ended j) (g (i .before)) (top2 (i .before)) (bits2 (i .before))
+    (read (i .before)) _ (i .if1 .left) (c .figures-of .ensures)
 
 returns-4 : tie.Need-returns-4
 returns-4 c =
-    let j = c .before .before .before .before .before .before .before .before .before in
-    let w = c .before .before .before .before .before .row-line in
+    let r = c .before .before .before .before .before in
+    let j = r .before .before .before .before in
+    let w = r .row-line in
     let x = c .before .r .given in
     second-refused (n j) (m j) (S j) (s j) (end j) (ended j) (x .0 .0 .number)
-    (row-refused (n j) (take (end j) (s j)) _ _ (w .result) _ _ (w .ensures) (x .0 .0) 4 (x .1))
+    (row-refused (n j) (take (end j) (s j)) _ _ _ _ _ (w .ensures) (x .0 .0) 4 (x .1))
 
 pub second-row-spec : {M : Type 1} → statement M
 second-row-spec =
