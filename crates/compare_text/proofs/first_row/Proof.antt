@@ -19,53 +19,49 @@ use Rattle.compare_text.proofs.second_row.Reads as second-row-reads
 use Rattle.decode.proofs.find.Reads as find-reads
 use Rattle.lines.proofs.row_line.Reads as row-line-reads
 
--- the place where the line has its end
-abbrev Ended : Type 0
-Ended =
-    lts.After-known-told (
-      find-reads.Asked,
-      find-reads.Learnt,
-      row-line-reads.Asked,
-      row-line-reads.Learnt,
-      second-row-reads.Asked,
-      second-row-reads.Learnt,
-    ) reads.Pre reads.Post
+abbrev claims : lts.Claims
+claims = (
+  find-reads.Asked,
+  find-reads.Learnt,
+  row-line-reads.Asked,
+  row-line-reads.Learnt,
+  second-row-reads.Asked,
+  second-row-reads.Learnt,
+)
 
-module _ (k : Ended) where
+-- the place where the line has its end
+module _ (k : lts.After-known-told claims reads.Pre reads.Post) where
+  abbrev start : lts.Start claims reads.Pre reads.Post
+  start = k .before .before .before .before .before
+
   abbrev n : ℕ
-  n = k .before .before .before .before .before .args .config
+  n = start .args .config
 
   abbrev m : Mask
-  m = maskIn (k .before .before .before .before .before .args .m)
+  m = maskIn (start .args .m)
 
   abbrev s : List ℕ
-  s = k .before .before .before .before .before .args .input .now
+  s = start .args .input .now
 
   abbrev end : ℕ
   end = k .before .end .given .0 .0
 
   few : length s ≤ largestInput
-  few = k .before .before .before .before .before .pre .0
+  few = start .pre .0
 
   areas : Areas n
-  areas = k .before .before .before .before .before .pre .1
+  areas = start .pre .1
 
   ended : Line s end
-  ended = line-ends s (k .before .before .before .find .result) (k .before .before .before .find .ensures) end (k .before .end .given .1)
+  ended = line-ends s _ (k .before .before .before .find .ensures) end (k .before .end .given .1)
 
 -- the place where the row is read
-abbrev Given : Type 0
-Given =
-    lts.After-known-told2 (
-      find-reads.Asked,
-      find-reads.Learnt,
-      row-line-reads.Asked,
-      row-line-reads.Learnt,
-      second-row-reads.Asked,
-      second-row-reads.Learnt,
-    ) reads.Pre reads.Post
+module _ (k : lts.After-known-told2 claims reads.Pre reads.Post) where
+  abbrev line : lts.After-known-told claims reads.Pre reads.Post
+  line =
+      let j = k .before .before .before .before .before in
+      j .before .before .before .before
 
-module _ (k : Given) where
   abbrev f : Filter
   f = k .before .f .given .0 .0
 
@@ -75,62 +71,42 @@ module _ (k : Given) where
   abbrev bits : List ℕ
   bits = k .before .before .before .before .before .row-line .last .1 .1 .1 .0
 
-  read : Read (n (k .before .before .before .before .before .before .before .before .before))
-      (take (end (k .before .before .before .before .before .before .before .before .before))
-      (s (k .before .before .before .before .before .before .before .before .before))) f top bits
+  read : Read (n line) (take (end line) (s line)) f top bits
   read =
       let w = k .before .before .before .before .before .row-line in
-      row-read (n (k .before .before .before .before .before .before .before .before .before))
-      (take (end (k .before .before .before .before .before .before .before .before .before))
-      (s (k .before .before .before .before .before .before .before .before .before))) _ _ (w .result) top bits (w .ensures) f
-      (k .before .f .given .1) (areas (k .before .before .before .before .before .before .before .before .before))
+      row-read (n line) (take (end line) (s line)) _ _ (w .result) top bits (w .ensures) f (k .before .f .given .1) (areas line)
 
 returns : tie.Need-returns
-returns c =
-    let f = c .before .before .find in
-    first-missing _ (maskIn _) _ (no-line _ _ (f .ensures) (c .enum-told .given .1))
+returns c = first-missing _ (maskIn _) _ (no-line _ _ (c .before .before .find .ensures) (c .enum-told .given .1))
 
 add-next : tie.Need-add-next
 add-next c = omega (arith, ended c .inside, few c)
 
 slice-aggregate-row-line : tie.Need-slice-aggregate-row-line
-slice-aggregate-row-line c =
-    let k = c .before in
-    sym (line-length (s k) (end k) (ended k))
+slice-aggregate-row-line c = sym (line-length _ _ (ended (c .before)))
 
 row-line-requires : tie.Need-row-line-requires
 row-line-requires c κs =
     let k = c .before .before .before in
-    (line-fits (s k) (end k) (ended k) (few k), areas k)
+    (line-fits _ _ (ended k) (few k), areas k)
 
 sub-second-row : tie.Need-sub-second-row
-sub-second-row c =
-    let k = c .before .before .before .before .before in
-    let j = k .before .before .before in
-    let u = j .before .before .before in
-    omega (arith, ended u .inside)
+sub-second-row c = omega (arith, ended (line (c .before .before)) .inside)
 
 part-second-row-start : tie.Need-part-second-row-start
-part-second-row-start c =
-    let k = c .before .before .before .before .before in
-    let j = k .before .before .before in
-    let u = j .before .before .before in
-    omega (arith, ended u .inside)
+part-second-row-start c = omega (arith, ended (line (c .before .before)) .inside)
 
 second-row-requires : tie.Need-second-row-requires
 second-row-requires c κs =
     let k = c .before .before .before in
-    let j = k .before .before .before .before .before in
-    let u = j .before .before .before .before in
-    let v = u .before .before .before .before .before in
-    first-asks (n u) (m u) (s u) (end u) (ended u) (f k) (top k) (bits k) (read k) (few u) (areas u) (v .pre .2)
+    let j = line k in
+    first-asks (n j) (m j) (s j) (end j) (ended j) (f k) (top k) (bits k) (read k) (few j) (areas j) (start j .pre .2)
 
 returns-2 : tie.Need-returns-2
 returns-2 c =
     let k = c .before .before .before .before in
-    let j = k .before .before .before .before .before in
-    let u = j .before .before .before .before in
-    first-judged (n u) (m u) (s u) (end u) (ended u) (f k) (top k) (bits k) (read k) _ (c .second-row .ensures)
+    let j = line k in
+    first-judged (n j) (m j) (s j) (end j) (ended j) (f k) (top k) (bits k) (read k) _ (c .second-row .ensures)
 
 returns-3 : tie.Need-returns-3
 returns-3 c =

@@ -18,21 +18,22 @@ use Rattle.compare_text.proofs.masked_rows.Reads as masked-rows-reads
 use Rattle.decode.proofs.find.Reads as find-reads
 use Rattle.lines.proofs.config_line.Reads as config-line-reads
 
--- the place where the line has its end
-abbrev Ended : Type 0
-Ended =
-    lts.After-known-told (
-      find-reads.Asked,
-      find-reads.Learnt,
-      config-line-reads.Asked,
-      config-line-reads.Learnt,
-      masked-rows-reads.Asked,
-      masked-rows-reads.Learnt,
-    ) reads.Pre reads.Post
+abbrev claims : lts.Claims
+claims = (
+  find-reads.Asked,
+  find-reads.Learnt,
+  config-line-reads.Asked,
+  config-line-reads.Learnt,
+  masked-rows-reads.Asked,
+  masked-rows-reads.Learnt,
+)
 
-module _ (k : Ended) where
+-- the place where the line has its end
+module _ (k : lts.After-known-told claims reads.Pre reads.Post) where
   abbrev s : List ℕ
-  s = k .before .before .before .before .before .before .args .input .now
+  s =
+      let i = k .before .before .before .before in
+      i .before .before .args .input .now
 
   abbrev end : ℕ
   end = k .before .end .given .0 .0
@@ -41,21 +42,10 @@ module _ (k : Ended) where
   few = k .before .before .before .before .if1 .left
 
   ended : Line s end
-  ended = line-ends s (k .before .before .before .find .result) (k .before .before .before .find .ensures) end (k .before .end .given .1)
+  ended = line-ends s _ (k .before .before .before .find .ensures) end (k .before .end .given .1)
 
 -- the place where the configuration is known
-abbrev Given : Type 0
-Given =
-    lts.After-known-told2 (
-      find-reads.Asked,
-      find-reads.Learnt,
-      config-line-reads.Asked,
-      config-line-reads.Learnt,
-      masked-rows-reads.Asked,
-      masked-rows-reads.Learnt,
-    ) reads.Pre reads.Post
-
-module _ (k : Given) where
+module _ (k : lts.After-known-told2 claims reads.Pre reads.Post) where
   abbrev n : ℕ
   n = k .before .config .given .0 .0
 
