@@ -65,9 +65,7 @@ add-next : tie.Need-add-next
 add-next c = omega (arith, ended c .inside, few c)
 
 slice-aggregate-config-line : tie.Need-slice-aggregate-config-line
-slice-aggregate-config-line c =
-    let k = c .before in
-    sym (line-length (s k) (end k) (ended k))
+slice-aggregate-config-line c = sym (line-length _ _ (ended (c .before)))
 
 sub-masked-rows : tie.Need-sub-masked-rows
 sub-masked-rows c = omega (arith, ended (c .before .before .before .before .before) .inside)

@@ -18,47 +18,38 @@ use Rattle.compare_text.proofs.first_row.Reads as first-row-reads
 use Rattle.decode.proofs.find.Reads as find-reads
 use Rattle.lines.proofs.mask_line.Reads as mask-line-reads
 
--- the place where the line has its end
-abbrev Ended : Type 0
-Ended =
-    lts.After-known-told (
-      find-reads.Asked,
-      find-reads.Learnt,
-      mask-line-reads.Asked,
-      mask-line-reads.Learnt,
-      first-row-reads.Asked,
-      first-row-reads.Learnt,
-    ) reads.Pre reads.Post
+abbrev claims : lts.Claims
+claims = (
+  find-reads.Asked,
+  find-reads.Learnt,
+  mask-line-reads.Asked,
+  mask-line-reads.Learnt,
+  first-row-reads.Asked,
+  first-row-reads.Learnt,
+)
 
-module _ (k : Ended) where
+-- the place where the line has its end
+module _ (k : lts.After-known-told claims reads.Pre reads.Post) where
+  abbrev start : lts.Start claims reads.Pre reads.Post
+  start = k .before .before .before .before .before
+
   abbrev n : ℕ
-  n = k .before .before .before .before .before .args .config
+  n = start .args .config
 
   abbrev s : List ℕ
-  s = k .before .before .before .before .before .args .input .now
+  s = start .args .input .now
 
   abbrev end : ℕ
   end = k .before .end .given .0 .0
 
   few : length s ≤ largestInput
-  few = k .before .before .before .before .before .pre .0
+  few = start .pre .0
 
   ended : Line s end
-  ended = line-ends s (k .before .before .before .find .result) (k .before .before .before .find .ensures) end (k .before .end .given .1)
+  ended = line-ends s _ (k .before .before .before .find .ensures) end (k .before .end .given .1)
 
 -- the place where the mask is known
-abbrev Given : Type 0
-Given =
-    lts.After-known-told2 (
-      find-reads.Asked,
-      find-reads.Learnt,
-      mask-line-reads.Asked,
-      mask-line-reads.Learnt,
-      first-row-reads.Asked,
-      first-row-reads.Learnt,
-    ) reads.Pre reads.Post
-
-module _ (k : Given) where
+module _ (k : lts.After-known-told2 claims reads.Pre reads.Post) where
   abbrev m : Mask
   m = maskIn (k .before .m .given .0 .0)
 
@@ -66,17 +57,13 @@ module _ (k : Given) where
   told = sym (k .before .before .before .mask-line .ensures) ∙ ap maskTold (k .before .m .given .1)
 
 returns : tie.Need-returns
-returns c =
-    let f = c .before .before .find in
-    masked-missing _ _ (no-line _ _ (f .ensures) (c .enum-told .given .1))
+returns c = masked-missing _ _ (no-line _ _ (c .before .before .find .ensures) (c .enum-told .given .1))
 
 add-next : tie.Need-add-next
 add-next c = omega (arith, ended c .inside, few c)
 
 slice-aggregate-mask-line : tie.Need-slice-aggregate-mask-line
-slice-aggregate-mask-line c =
-    let k = c .before in
-    sym (line-length (s k) (end k) (ended k))
+slice-aggregate-mask-line c = sym (line-length _ _ (ended (c .before)))
 
 sub-first-row : tie.Need-sub-first-row
 sub-first-row c = omega (arith, ended (c .before .before .before .before .before) .inside)
@@ -86,14 +73,9 @@ part-first-row-start c = omega (arith, ended (c .before .before .before .before 
 
 first-row-requires : tie.Need-first-row-requires
 first-row-requires c κs =
-    let k = c .before .before .before in
-    let j = k .before .before .before in
-    let u = j .before .before .before .before .before in (
-      rest-fits (s j) (end j) (ended j) (few j),
-      u .pre .1,
-      mask-fits (take (end j) (s j)) (m (c .before))
-          (told (c .before)),
-    )
+    let k = c .before in
+    let j = k .before .before .before .before .before in
+    (rest-fits (s j) (end j) (ended j) (few j), start j .pre .1, mask-fits (take (end j) (s j)) (m k) (told k))
 
 returns-2 : tie.Need-returns-2
 returns-2 c =
