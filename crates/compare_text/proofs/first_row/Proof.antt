@@ -13,25 +13,10 @@ use Rattle.compare_text.proofs.Judging.{line-length, no-line, row-read,
 use borrow.Author.Needs.{needs}
 use Rattle.compare_text.proofs.first_row.Statement.{statement}
 use Rattle.compare_text.proofs.first_row.Tie as tie
-use Rattle.compare_text.proofs.first_row.Reads as reads
-use Rattle.compare_text.proofs.first_row.Lts as lts
-use Rattle.compare_text.proofs.second_row.Reads as second-row-reads
-use Rattle.decode.proofs.find.Reads as find-reads
-use Rattle.lines.proofs.row_line.Reads as row-line-reads
-
-abbrev claims : lts.Claims
-claims = (
-  find-reads.Asked,
-  find-reads.Learnt,
-  row-line-reads.Asked,
-  row-line-reads.Learnt,
-  second-row-reads.Asked,
-  second-row-reads.Learnt,
-)
 
 -- the place where the line has its end
-module _ (k : lts.After-known-told claims reads.Pre reads.Post) where
-  abbrev start : lts.Start claims reads.Pre reads.Post
+module _ (k : tie.After-known-told) where
+  abbrev start : tie.Start
   start = k .before .before .before .before .before
 
   abbrev n : ℕ
@@ -56,8 +41,8 @@ module _ (k : lts.After-known-told claims reads.Pre reads.Post) where
   ended = line-ends s _ (k .before .before .before .find .ensures) end (k .before .end .given .1)
 
 -- the place where the row is read
-module _ (k : lts.After-known-told2 claims reads.Pre reads.Post) where
-  abbrev line : lts.After-known-told claims reads.Pre reads.Post
+module _ (k : tie.After-known-told2) where
+  abbrev line : tie.After-known-told
   line =
       let j = k .before .before .before .before .before in
       j .before .before .before .before

@@ -12,24 +12,9 @@ use Rattle.compare_text.proofs.Judging.{no-line, rest-fits}
 use borrow.Author.Needs.{needs}
 use Rattle.compare_text.proofs.judged_input.Statement.{statement}
 use Rattle.compare_text.proofs.judged_input.Tie as tie
-use Rattle.compare_text.proofs.judged_input.Reads as reads
-use Rattle.compare_text.proofs.judged_input.Lts as lts
-use Rattle.compare_text.proofs.masked_rows.Reads as masked-rows-reads
-use Rattle.decode.proofs.find.Reads as find-reads
-use Rattle.lines.proofs.config_line.Reads as config-line-reads
-
-abbrev claims : lts.Claims
-claims = (
-  find-reads.Asked,
-  find-reads.Learnt,
-  config-line-reads.Asked,
-  config-line-reads.Learnt,
-  masked-rows-reads.Asked,
-  masked-rows-reads.Learnt,
-)
 
 -- the place where the line has its end
-module _ (k : lts.After-known-told claims reads.Pre reads.Post) where
+module _ (k : tie.After-known-told) where
   abbrev s : List ℕ
   s =
       let i = k .before .before .before .before in
@@ -45,7 +30,7 @@ module _ (k : lts.After-known-told claims reads.Pre reads.Post) where
   ended = line-ends s _ (k .before .before .before .find .ensures) end (k .before .end .given .1)
 
 -- the place where the configuration is known
-module _ (k : lts.After-known-told2 claims reads.Pre reads.Post) where
+module _ (k : tie.After-known-told2) where
   abbrev n : ℕ
   n = k .before .config .given .0 .0
 

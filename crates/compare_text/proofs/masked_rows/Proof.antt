@@ -12,25 +12,10 @@ use Rattle.compare_text.proofs.Judging.{rest-fits}
 use borrow.Author.Needs.{needs}
 use Rattle.compare_text.proofs.masked_rows.Statement.{statement}
 use Rattle.compare_text.proofs.masked_rows.Tie as tie
-use Rattle.compare_text.proofs.masked_rows.Reads as reads
-use Rattle.compare_text.proofs.masked_rows.Lts as lts
-use Rattle.compare_text.proofs.first_row.Reads as first-row-reads
-use Rattle.decode.proofs.find.Reads as find-reads
-use Rattle.lines.proofs.mask_line.Reads as mask-line-reads
-
-abbrev claims : lts.Claims
-claims = (
-  find-reads.Asked,
-  find-reads.Learnt,
-  mask-line-reads.Asked,
-  mask-line-reads.Learnt,
-  first-row-reads.Asked,
-  first-row-reads.Learnt,
-)
 
 -- the place where the line has its end
-module _ (k : lts.After-known-told claims reads.Pre reads.Post) where
-  abbrev start : lts.Start claims reads.Pre reads.Post
+module _ (k : tie.After-known-told) where
+  abbrev start : tie.Start
   start = k .before .before .before .before .before
 
   abbrev n : ℕ
@@ -49,7 +34,7 @@ module _ (k : lts.After-known-told claims reads.Pre reads.Post) where
   ended = line-ends s _ (k .before .before .before .find .ensures) end (k .before .end .given .1)
 
 -- the place where the mask is known
-module _ (k : lts.After-known-told2 claims reads.Pre reads.Post) where
+module _ (k : tie.After-known-told2) where
   abbrev m : Mask
   m = maskIn (k .before .m .given .0 .0)
 

@@ -15,25 +15,10 @@ use Rattle.compare_text.proofs.Judging.{second-followed, second-judged,
 use borrow.Author.Needs.{needs}
 use Rattle.compare_text.proofs.second_row.Statement.{statement}
 use Rattle.compare_text.proofs.second_row.Tie as tie
-use Rattle.compare_text.proofs.second_row.Reads as reads
-use Rattle.compare_text.proofs.second_row.Lts as lts
-use Rattle.decode.proofs.find.Reads as find-reads
-use Rattle.figures.proofs.figures_of.Reads as figures-of-reads
-use Rattle.lines.proofs.row_line.Reads as row-line-reads
-
-abbrev claims : lts.Claims
-claims = (
-  find-reads.Asked,
-  find-reads.Learnt,
-  row-line-reads.Asked,
-  row-line-reads.Learnt,
-  figures-of-reads.Asked,
-  figures-of-reads.Learnt,
-)
 
 -- the place where the line has its end
-module _ (k : lts.After-known-told claims reads.Pre reads.Post) where
-  abbrev start : lts.Start claims reads.Pre reads.Post
+module _ (k : tie.After-known-told) where
+  abbrev start : tie.Start
   start =
       let j = k .before .before .before in
       j .before .before .before .before
@@ -63,8 +48,8 @@ module _ (k : lts.After-known-told claims reads.Pre reads.Post) where
   ended = line-ends s _ (k .before .before .before .find .ensures) end (k .before .end .given .1)
 
 -- the place where the row is read
-module _ (k : lts.After-known-told2 claims reads.Pre reads.Post) where
-  abbrev line : lts.After-known-told claims reads.Pre reads.Post
+module _ (k : tie.After-known-told2) where
+  abbrev line : tie.After-known-told
   line =
       let j = k .before .before .before .before .before in
       j .before .before .before .before
