@@ -13,9 +13,7 @@ use Rattle.counts.proofs.exact_count.Tie as tie
 told : (c : tie.After-enum-told) →
     let a = c .before .before .before .before .before .args in
     One (a .f) (a .top .now) (a .blocks .now) (c .enum-told .given .0 .0)
-told c =
-    let a = c .before .before .before .before .before .args in
-    one (a .f) (a .top .now) (a .blocks .now) (c .enum-told .given .0 .0) (c .before .before .filter-lent .ensures) (c .enum-told .given .1)
+told c = one _ _ _ _ (c .before .before .filter-lent .ensures) (c .enum-told .given .1)
 
 num-blocks-requires : tie.Need-num-blocks-requires
 num-blocks-requires c κs = omega (arith, told c .fits)

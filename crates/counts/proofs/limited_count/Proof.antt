@@ -11,12 +11,10 @@ use Rattle.counts.proofs.limited_count.Tie as tie
 
 -- what the judge told
 told : (c : tie.After-known-told) →
-    let a = c .before .before .before .before .before .before .args in
+    let l = c .before .before .before in
+    let a = l .before .before .before .args in
     One (a .f) (a .top .now) (a .blocks .now) (c .before .s .given .0 .0)
-told c =
-    let a = c .before .before .before .before .before .before .args in
-    one (a .f) (a .top .now) (a .blocks .now) (c .before .s .given .0 .0) (c .before .before .before .filter-lent .ensures)
-    (c .before .s .given .1)
+told c = one _ _ _ _ (c .before .before .before .filter-lent .ensures) (c .before .s .given .1)
 
 last-entry-requires : tie.Need-last-entry-requires
 last-entry-requires c κs = omega (arith, told c .fits)
@@ -30,8 +28,7 @@ count-ones-from-msb-and-lsb-requires c κs =
       omega arith,
       omega (arith, c .before .last-entry .ensures),
       omega (arith, c .num-blocks .ensures),
-      omega
-          (arith, c .num-blocks .ensures),
+      omega (arith, c .num-blocks .ensures),
     )
 
 returns : tie.Need-returns
