@@ -104,8 +104,7 @@ module _ (n : ℕ) (st : Stage) (pending bits : List ℕ) where
       let a = areas-refused n (length pending) (length bits) r q in
       refuses (λ x. Refused x) (Known (sizesAt n)) (
         a .0,
-        after-refused (builderAreas n (length pending) (length bits))
-            (soundTest ∷ []) (a .1),
+        after-refused (builderAreas n (length pending) (length bits)) (soundTest ∷ []) (a .1),
         a .2,
       )
 
