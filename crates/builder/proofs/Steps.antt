@@ -168,8 +168,7 @@ module _ (n : ℕ) (k : known n ≡ true) where
           le-leb _ _ (C .room .cells),
           le-leb _ _ (C .room .blocks),
           le-leb _ _ (L .tops),
-          le-leb _ _
-              (L .blocks),
+          le-leb _ _ (L .blocks),
           C .sound,
         )) (C .sets) refl refl
         (subst (λ (x : Builder). Finishes x p q to toBits r t b′) is-now F)
