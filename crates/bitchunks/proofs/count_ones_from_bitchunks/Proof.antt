@@ -31,8 +31,7 @@ add-all c =
     let f = subst (FirstOf _ _ _ _ _ _) (t .total .given .1) (x .first-xor-ones .ensures) in
     omega (
       arith,
-      all-few f _ (p .1 .1 .0) (p .1 .1 .1) _ _ (c .before .lsb-index-lower-bound .ensures)
-          (c .count-xor-ones .ensures),
+      all-few f _ (p .1 .1 .0) (p .1 .1 .1) _ _ (c .before .lsb-index-lower-bound .ensures) (c .count-xor-ones .ensures),
       p .0 .2 .small,
     )
 

@@ -30,8 +30,7 @@ masked-block-requires c κs =
       s .pre .1 .0,
       s .pre .1 .1,
       s .pre .1 .2,
-      omega
-          (arith, t .ahead .small, skip-under t (c .before .block .given .1) (n .next-chunk .ensures)),
+      omega (arith, t .ahead .small, skip-under t (c .before .block .given .1) (n .next-chunk .ensures)),
     )
 
 returns : tie.Need-returns Inv-loop μ-loop

@@ -24,8 +24,7 @@ merge-requires c κs =
     let y = r .reach2 .ensures (take (s .args .n2) (now (s .args .blocks2))) (cell-count _ _ (s .pre .1 .1)) in (
       s .pre .0 .0,
       s .pre .0 .1,
-      cross-ahead (s .pre .0 .2) (s .pre .1 .2) x y _ (c .before .most .ensures)
-          (c .if1 .left),
+      cross-ahead (s .pre .0 .2) (s .pre .1 .2) x y _ (c .before .most .ensures) (c .if1 .left),
     )
 
 merge-requires-2 : tie.Need-merge-requires-2
@@ -37,8 +36,7 @@ merge-requires-2 c κs =
     let y = k .before .reach2 .ensures (take (s .args .n2) (now (s .args .blocks2))) (cell-count _ _ (s .pre .1 .1)) in (
       s .pre .1 .0,
       s .pre .1 .1,
-      cross-other (s .pre .0 .2) (s .pre .1 .2) x y _ (k .most .ensures)
-          (c .before .if1 .left),
+      cross-other (s .pre .0 .2) (s .pre .1 .2) x y _ (k .most .ensures) (c .before .if1 .left),
     )
 
 returns-2 : tie.Need-returns-2
