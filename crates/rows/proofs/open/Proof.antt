@@ -15,8 +15,7 @@ add-t8 c =
     let l = c .before .before .before in
     omega (
       arith,
-      fits-few _ _ (l .before .before .row .ensures) (l .layout .given .1)
-          (c .before .count-ones-in-bytes .ensures),
+      fits-few _ _ (l .before .before .row .ensures) (l .layout .given .1) (c .before .count-ones-in-bytes .ensures),
     )
 
 returns : tie.Need-returns

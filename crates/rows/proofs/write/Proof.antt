@@ -41,8 +41,7 @@ write-requires c κs =
       (R .low, R .blocksIn),
       (
         R .clear,
-        omega
-            (arith, e .write-entries .kept .0, l .row-len .ensures, length-bitPart (a .f .boundary) (held (now (a .blocks)))),
+        omega (arith, e .write-entries .kept .0, l .row-len .ensures, length-bitPart (a .f .boundary) (held (now (a .blocks)))),
       ),
     )
 
