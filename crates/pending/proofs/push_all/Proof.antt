@@ -29,8 +29,7 @@ push-one-requires c κs =
         (
           s .pre .1 .1 .0,
           s .pre .1 .1 .1,
-          omega
-              (arith, u .into-usize .ensures, s .pre .1 .1 .2 (k .loop .i) (omega arith)),
+          omega (arith, u .into-usize .ensures, s .pre .1 .1 .2 (k .loop .i) (omega arith)),
         ),
       ),
     )
