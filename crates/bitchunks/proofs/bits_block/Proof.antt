@@ -14,8 +14,7 @@ returns : tie.Need-returns
 returns c =
     let s = c .before .before .args in
     let e : s .i - 0 ≡ s .i = omega arith in
-    sym
-    (bits-in 0 _ _ (omega arith) ∙ ap (λ (x : ℕ). getD (take (s .n) (now (s .blocks))) x 0) e
+    sym (bits-in 0 _ _ (omega arith) ∙ ap (λ (x : ℕ). getD (take (s .n) (now (s .blocks))) x 0) e
     ∙ getD-take _ _ _ 0 (c .before .if1 .taken))
 
 returns-2 : tie.Need-returns-2
