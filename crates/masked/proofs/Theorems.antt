@@ -209,8 +209,7 @@ module _ (f : Filter) (top bits : List ℕ) (g : Filter) (top2 bits2 : List ℕ)
         keyOf line mask size T,
         t .0,
         t .1,
-        greater-key line mask size T S
-            (order-swap (W line) mask size S T ∙ ap opposite (t .2)),
+        greater-key line mask size T S (order-swap (W line) mask size S T ∙ ap opposite (t .2)),
       )
 
   -- equal filters have one key

@@ -28,8 +28,7 @@ masked-block-requires c κs =
       s .pre .1 .1 .0,
       s .pre .1 .1 .1,
       s .pre .1 .1 .2,
-      differ-step t (c .before .block .given .1)
-          (n .next-xor-chunk .ensures) .ahead .small,
+      differ-step t (c .before .block .given .1) (n .next-xor-chunk .ensures) .ahead .small,
     )
 
 loop-less : tie.Need-loop-less Inv-loop μ-loop
