@@ -148,8 +148,7 @@ module _ (s : List ℕ) {f : Found} (F : Finds space s f) where
             rw (
               found-at .1,
               number-some (decimal (take i s)) mask (sym D ∙ q),
-              number-some (decimal (drop (suc i) s)) size
-                  (sym size-told ∙ p),
+              number-some (decimal (drop (suc i) s)) size (sym size-told ∙ p),
             ) h
 
 -- ---- mask_line
