@@ -50,8 +50,7 @@ module _ (row : List ℕ) (s : Sizes) (n : ℕ) (e : s ≡ sizesAt n) where
         (rw (
           le-leb (length row) (s .longest) h,
           le-leb (length row) (s .top * s .entry) l,
-          lt-leb (s .top * s .entry + 9)
-              (length row) (omega arith),
+          lt-leb (s .top * s .entry + 9) (length row) (omega arith),
         )
         (or-false (whole && true) ∙ and-true whole))
 

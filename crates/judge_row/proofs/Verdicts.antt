@@ -216,8 +216,7 @@ module _ (n : ℕ) (bs : List ℕ) where
             arith,
             F .counted,
             falls-low (rowEntries c bs) (W c) (c .M - 1) (F .falling),
-            whole-blocks c
-                (line-at n .sound),
+            whole-blocks c (line-at n .sound),
             line-at n .small,
           ),
         )
