@@ -20,8 +20,7 @@ write-blocks-requires c κs =
     let i = c .before .before .before in
     let s = i .before .before .before in (
       omega arith,
-      simp length-set
-          (omega (arith, part-length (s .args .boundary) (s .args .blocks .now) (i .if1 .left), s .pre .1 .1)),
+      simp length-set (omega (arith, part-length (s .args .boundary) (s .args .blocks .now) (i .if1 .left), s .pre .1 .1)),
     )
 
 same-length : tie.Need-same-length
