@@ -1,9 +1,7 @@
 -- `row_reader::step` meets its contract: a walk of its MIR, by hand. The reader is taken apart, and `step_at` is called once on
--- the slice and the two numbers;
--- what it returns is taken apart too, and its answer and its place make the struct that is returned. All that the proof knows of
--- `step_at` is that it meets its contract.
--- A reader is Copy: what it owns is had three times, for the callee, for the exit, and inside the result.
--- Assumes nothing.
+-- the slice and the two numbers; what it returns is taken apart too, and its answer and its place make the struct that is
+-- returned. All that the proof knows of `step_at` is that it meets its contract. A reader is Copy: what it owns is had three
+-- times, for the callee, for the exit, and inside the result. Assumes nothing.
 use mathlib.Core.Path.{_≡_, refl, ap}
 use mathlib.Core.List.{[], _∷_}
 use lib.Dec.{T as Holds}
@@ -168,16 +166,16 @@ module _ {M : Type 1} (𝓤 : URA M) (H : Heap 𝓤) (A : Atoms 𝓤) (W : Given
       suffices ! _ (ends-at 𝓤 H A step.ended stayed (step.clauses 𝓤 H A mem run) W
       (((κ, tt), (q, tt), tt, (d, tt), (mach ∷ [], tt)), tt) (xv r) (made r) (tt, tt) (tt, tt)) $
       says ! (ap made e) $
-      move ! (1 ∷ []) $ frame ! $ move ! (1 ∷ []) $ use1 W (‵ Own ⊛ ‵ Own) twice $ split ! $ nothing ! $ move !
-      (1 ∷ 0 ∷ []) $ fjoin ! $ frame ! $
+      move ! (1 ∷ []) $ frame ! $ move ! (1 ∷ []) $ use1 W (‵ Own ⊛ ‵ Own) twice $ split ! $ nothing ! $ move ! (1 ∷ 0 ∷ []) $
+      fjoin ! $ frame ! $
       -- [what the reader owns; what the callee's result owns]: the result's place takes the place of the reader's, and its answer
       -- stands beside
       move ! (1 ∷ []) $
       use1 W (given (sv r ∷ [] ≡ sv r ∷ []) (‵ (all-own (S.the-type .parts) S′.the-laws (vr r))))
       (own-open 𝓤 H A W S.the-type S′.the-laws (vr r) (sv r)) $ learn ! (λ _.
       fsplit ! $ move ! (1 ∷ []) $ fsplit ! $ move ! (3 ∷ 0 ∷ []) $
-      use2 W (‵ (B (κ, tt) .own (on r) (T′.lowered (on r) ∷ []))) (own-put 𝓤 H A W D L 2 vd (r .place) mach) $ fjoin ! $ move !
-      (1 ∷ 0 ∷ []) $ fjoin ! $
+      use2 W (‵ (B (κ, tt) .own (on r) (T′.lowered (on r) ∷ []))) (own-put 𝓤 H A W D L 2 vd (r .place) mach) $ fjoin ! $
+      move ! (1 ∷ 0 ∷ []) $ fjoin ! $
       by ! (own-shut 𝓤 H A W (X.the-type α) (X′.the-laws α) (r .answer, (on r, tt))))
 
   module _ (C : Calls 𝓤 H) (Λ : Loops 𝓤 H) (fm : FmC 𝓤 H (W .laws) C)
@@ -226,13 +224,14 @@ module _ {M : Type 1} (𝓤 : URA M) (H : Heap 𝓤) (A : Atoms 𝓤) (W : Given
         (init ! 3 refl (LL.lawful (T.the-type αᵉ) (T′.the-laws αᵉ) 𝓤 H A W .typed (on r) _ (on-is r is′) .0)) $
         assigns ! (agg ! (and-then ! (load ! (from ! (fld ! refl (stop !))) (look-in ! 15 (sub ! 0 refl (whole !))))
         (and-then ! (load ! (from ! (stop !)) (look ! 3 refl)) (no-more !)))) (from ! (stop !))
-        (init ! 19 refl (LL.lawful (X.the-type α) (X′.the-laws α) 𝓤 H A W .typed (made r) _ (made-is r is′) .0)) $ returns !
-        (look ! 19 refl) $
-        forget ! 3 refl $ forget ! 5 refl $ forget ! 7 refl $ forget ! 9 refl $ forget ! 11 refl $ forget ! 13 refl $ forget ! 15 refl $ forget ! 17 refl $ forget ! 19 refl $
-        move ! (19 ∷ 20 ∷ []) $ free1 ! $ move ! (17 ∷ 18 ∷ []) $ free1 ! $ move ! (15 ∷ 16 ∷ []) $ free1 ! $ move !
-        (13 ∷ 14 ∷ []) $ free1 ! $
-        move ! (11 ∷ 12 ∷ []) $ free1 ! $ move ! (9 ∷ 10 ∷ []) $ free1 ! $ move ! (7 ∷ 8 ∷ []) $ free1 ! $ move !
-        (5 ∷ 6 ∷ []) $ free1 ! $ move ! (3 ∷ 4 ∷ []) $ free1 ! $ free0 ! $
+        (init ! 19 refl (LL.lawful (X.the-type α) (X′.the-laws α) 𝓤 H A W .typed (made r) _ (made-is r is′) .0)) $
+        returns ! (look ! 19 refl) $
+        forget ! 3 refl $ forget ! 5 refl $ forget ! 7 refl $ forget ! 9 refl $ forget ! 11 refl $ forget ! 13 refl $
+        forget ! 15 refl $ forget ! 17 refl $ forget ! 19 refl $
+        move ! (19 ∷ 20 ∷ []) $ free1 ! $ move ! (17 ∷ 18 ∷ []) $ free1 ! $ move ! (15 ∷ 16 ∷ []) $ free1 ! $
+        move ! (13 ∷ 14 ∷ []) $ free1 ! $
+        move ! (11 ∷ 12 ∷ []) $ free1 ! $ move ! (9 ∷ 10 ∷ []) $ free1 ! $ move ! (7 ∷ 8 ∷ []) $ free1 ! $ move ! (5 ∷ 6 ∷ []) $
+        free1 ! $ move ! (3 ∷ 4 ∷ []) $ free1 ! $ free0 ! $
         by ! (exits r e)))))))))))))))
 
 module _ {M : Type 1} (𝓤 : URA M) (H : Heap 𝓤) (A : Atoms 𝓤) (W : Given 𝓤 H A) (mem : Memory → SProp 𝓤) (run : Routine → Fun 𝓤) where
