@@ -34,7 +34,8 @@ limited-of {m} c l b = record { countIs = c; boundIs = b ∙ ap₂ (λ (x y : �
 
 -- ---- a filter
 
-module _ {m k : ℕ} {top blocks : List ℕ} {count edge : ℕ} {S : Set} (z : 0 < m) (H : Holds m k top blocks count edge S) (n : ℕ) (e : n ≡ blocksFor edge) where
+module _ {m k : ℕ} {top blocks : List ℕ} {count edge : ℕ} {S : Set} (z : 0 < m) (H : Holds m k top blocks count edge S) (n : ℕ)
+    (e : n ≡ blocksFor edge) where
   edge-within : boundary m (64 * k) S ≤ 64 * k
   edge-within = edge-low z (set-split m (64 * k) z S)
 
@@ -46,7 +47,8 @@ module _ {m k : ℕ} {top blocks : List ℕ} {count edge : ℕ} {S : Set} (z : 0
       ap length (members-same (onward (64 * from) (held blocks)) (onward (64 * a) B) (64 * n)
       (λ p l. ap₂ _&&_ (here p l (decLe (64 * a) p)) (holds-bits H p (omega (arith, H .edgeIs, edge-within))))
       ∙ sym (members-gap (onward (64 * a) B) (64 * n) (64 * k) (omega (arith, H .edgeIs, edge-within))
-      (λ p u l. ap (_&&_ (leb (64 * a) p)) (below-out (boundary m (64 * k) S) S p (omega (arith, H .edgeIs))) ∙ and-false (leb (64 * a) p))))
+      (λ p u l. ap (_&&_ (leb (64 * a) p)) (below-out (boundary m (64 * k) S) S p (omega (arith, H .edgeIs)))
+      ∙ and-false (leb (64 * a) p))))
     where
       here : (p : ℕ) → p < 64 * n → Dec (64 * a ≤ p) → leb (64 * from) p ≡ leb (64 * a) p
       here p l (yes h) = le-leb (64 * from) p (omega arith) ∙ sym (le-leb (64 * a) p h)
@@ -71,7 +73,8 @@ module _ {m k : ℕ} {top blocks : List ℕ} {count edge : ℕ} {S : Set} (z : 0
   unfolding low limitedCount
   filter-limited last window lo from r bound ea el ef er eb =
       let g : lo ≡ low m (64 * k) window S = el ∙ ap (λ (x : ℕ). blocksFor x - window) ea in
-      limited-of (ap₂ _+_ (H .countIs) (er ∙ held-onward lo from ef ∙ ap (λ (x : ℕ). length (members (onward (64 * x) (bitsOf m (64 * k) S)) (64 * k))) g)) g eb
+      limited-of (ap₂ _+_ (H .countIs) (er ∙ held-onward lo from ef
+      ∙ ap (λ (x : ℕ). length (members (onward (64 * x) (bitsOf m (64 * k) S)) (64 * k))) g)) g eb
 
 -- ---- the last top entry, where the list is full
 
@@ -118,6 +121,8 @@ module _ (S : Set) (m n : ℕ) (z : 0 < m) (f : m ≤ length (members S n)) wher
         above ne = omega (arith, ne, last-from (64 * i) (omega arith), last-under (64 * suc i) u)
 
         go : Dec (total ≡ m) → (b : Bool) → S (64 * i) ≡ b → cond (eqb total m && b) i (i + 1) ≡ blocksFor (lastEntry m n S)
-        go (yes e) true s = rw (eq-eqb total m e) (omega (arith, last-from (64 * i) (omega arith), last-under (suc (64 * i)) (omega (arith, member-more S (64 * i) s))))
+        go (yes e) true s =
+            rw (eq-eqb total m e)
+            (omega (arith, last-from (64 * i) (omega arith), last-under (suc (64 * i)) (omega (arith, member-more S (64 * i) s))))
         go (yes e) false s = rw (eq-eqb total m e) (above (λ x. omega (arith, ap bit (sym last-in ∙ ap S (sym x) ∙ s))))
         go (no e) b s = rw (ne-eqb total m e) (above (λ x. omega (arith, e, last-rest, ap (λ (y : ℕ). length (members S y)) x)))

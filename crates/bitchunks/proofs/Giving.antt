@@ -29,7 +29,8 @@ pub record Skipping (S : Set) (tops : List ℕ) (mask size start passed end : �
   pub within : end ≤ start
   pub empty : Empty (kept mask size S) (64 * end) (64 * start)
 
-pub skip-start : {tops : List ℕ} {start passed : ℕ} (S : Set) (mask size : ℕ) → Ahead tops passed start → Skipping S tops mask size start passed start
+pub skip-start : {tops : List ℕ} {start passed : ℕ} (S : Set) (mask size : ℕ) → Ahead tops passed start
+    → Skipping S tops mask size start passed start
 skip-start S mask size a = record { ahead = a; within = omega arith; empty = λ p h l. absurd (omega arith) }
 
 module _ {S : Set} {tops : List ℕ} {mask size start passed end : ℕ} (t : Skipping S tops mask size start passed end) where
@@ -110,11 +111,13 @@ module _ (S : Set) (end : ℕ) where
   unfolding rest
   rest-one block j t =
       let e : 64 * end + j - 64 * end ≡ j = omega arith in
-      members-head (left S end block) (64 * end + j) (64 * suc end) (omega (arith, t .small)) (left-high block (64 * end + j) (omega arith) ∙ ap (digit block) e ∙ t .isSet)
+      members-head (left S end block) (64 * end + j) (64 * suc end) (omega (arith, t .small))
+      (left-high block (64 * end + j) (omega arith) ∙ ap (digit block) e ∙ t .isSet)
       (λ p a b. left-high block p (omega arith) ∙ t .above (p - 64 * end) (omega arith))
       ∙ ap (λ (l : List ℕ). (64 * end + j) ∷ l)
       (sym
-      (members-gap (left S end next) (64 * end + j) (64 * suc end) (omega (arith, t .small)) (λ p a b. left-high next p (omega arith) ∙ clear (p - 64 * end) (omega arith))
+      (members-gap (left S end next) (64 * end + j) (64 * suc end) (omega (arith, t .small))
+      (λ p a b. left-high next p (omega arith) ∙ clear (p - 64 * end) (omega arith))
       ∙ members-same (left S end next) (left S end block) (64 * end + j) (λ p l. same p l (decLt p (64 * end)))))
     where
       next : ℕ
@@ -151,7 +154,8 @@ pub seek-start : {tops : List ℕ} {passed end : ℕ} (S : Set) (block : ℕ) �
 seek-start S block a = record { ahead = a; same = refl }
 
 module _ {S : Set} {tops : List ℕ} {start first passed end block : ℕ} (t : Seeking S tops start first passed end block) where
-  pub seek-end : (o : NextOne) → ((R : Set) (l : List ℕ) → Ahead l passed end → Gives R l (rest R end block) o) → Gives S tops (rest S start first) o
+  pub seek-end : (o : NextOne) → ((R : Set) (l : List ℕ) → Ahead l passed end → Gives R l (rest R end block) o)
+      → Gives S tops (rest S start first) o
   seek-end o g = subst (λ (l : List ℕ). Gives S tops l o) (sym (t .same)) (g S tops (t .ahead))
 
   -- the block is used up

@@ -2,7 +2,8 @@
 use mathlib.Core.Path.{_≡_, sym, ap, ap₂, _∙_, fun-ext, subst}
 use mathlib.Core.Bool.{false, _&&_, _||_, or-false, or-self}
 use Prim.Native.Nat.{ℕ, _+_, _-_, _*_, _/_, _%_, _^_, _≤_, _<_, _∣_}
-use native.Mathlib.Nat.{add-mod-mod, dvd-mul-right-of-dvd, dvd-refl, lt-of-le-of-lt, lt-of-lt-of-le, mod-add-mod, mod-eq-of-lt, mod-eq-zero-of-dvd, mod-lt, mod-mod}
+use native.Mathlib.Nat.{add-mod-mod, dvd-mul-right-of-dvd, dvd-refl, lt-of-le-of-lt, lt-of-lt-of-le, mod-add-mod, mod-eq-of-lt}
+use native.Mathlib.Nat.{mod-eq-zero-of-dvd, mod-lt, mod-mod}
 use native.Mathlib.Decide.{decLt}
 use native.Mathlib.Omega.{arith}
 use lib.Pow.{pow-mono, pow-pos, shr-le}
@@ -49,7 +50,9 @@ module _ (mask size : ℕ) where
     some = omega arith;
     whole = dvd-mul-right-of-dvd size (v .whole) 2;
     told = λ j l h. digit-or block next j ∙ told j l h (decLt j i);
-    clear = λ j l h. digit-or block next j ∙ ap₂ _||_ (v .clear j (omega arith) h) (digit-shl block i j (omega arith) h ∙ v .clear (j - i) (omega arith) (omega arith));
+    clear =
+        λ j l h. digit-or block next j
+        ∙ ap₂ _||_ (v .clear j (omega arith) h) (digit-shl block i j (omega arith) h ∙ v .clear (j - i) (omega arith) (omega arith));
   }
     where
       next : ℕ
@@ -136,9 +139,12 @@ turned size index block some small e =
 
     told : (j : ℕ) → j < 64 → Dec (shift + j < size) → Dec (shift + j < 64) → (digit forth j || digit back j) ≡ laid block size (shift + j)
     told j h (yes l) k =
-        ap₂ _||_ (digit-shift block shift j ∙ block-told (shift + j) (omega arith)) (digit-shl-clear block (size - shift) j (omega arith) h) ∙ or-false (laid block size (shift + j))
+        ap₂ _||_ (digit-shift block shift j ∙ block-told (shift + j) (omega arith))
+        (digit-shl-clear block (size - shift) j (omega arith) h) ∙ or-false (laid block size (shift + j))
     told j h (no l) (yes k) =
-        ap₂ _||_ (digit-shift block shift j ∙ block-told (shift + j) k) (back-told j h (omega arith)) ∙ or-self (laid block size (shift + j))
+        ap₂ _||_ (digit-shift block shift j ∙ block-told (shift + j) k) (back-told j h (omega arith))
+        ∙ or-self (laid block size (shift + j))
     told j h (no l) (no k) =
         let m : 64 ≤ shift + j = omega arith in
-        ap₂ _||_ (digit-shift block shift j ∙ digit-past block (shift + j) (lt-of-lt-of-le block-lt (pow-mono m))) (back-told j h (omega arith))
+        ap₂ _||_ (digit-shift block shift j ∙ digit-past block (shift + j) (lt-of-lt-of-le block-lt (pow-mono m)))
+        (back-told j h (omega arith))

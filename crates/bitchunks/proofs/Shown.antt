@@ -62,7 +62,8 @@ filter-walk {m} {k} {top} {blocks} {count} {edge} h C p l = merged-joined (take 
         go : Dec (p / 64 < n) → held (take n blocks) p ≡ false
         go (yes v) = within v ∙ C .clear p u l
         go (no v) =
-            held-zero (take n blocks) (p / 64) p (List·getD-eq-default (take n blocks) 0 {n = p / 64} (omega (arith, length-take-le n blocks h))) (omega arith)
+            held-zero (take n blocks) (p / 64) p (List·getD-eq-default (take n blocks) 0 {n = p / 64}
+            (omega (arith, length-take-le n blocks h))) (omega arith)
 
 -- so from the filter of a set it goes over that set
 pub holds-walk : {m k : ℕ} {top blocks : List ℕ} {count edge : ℕ} {S : Set} → 0 < m → 64 * k ≤ 2 ^ 32 → m ≤ length top → k ≤ length blocks
@@ -90,9 +91,11 @@ row-walk c bs F p =
         go : Dec (p < 64 * rowBlockCount c bs) → held (rowBlocks c bs) p ≡ false
         go (yes v) = F .clear p u v
         go (no v) =
-            held-zero (rowBlocks c bs) (p / 64) p (List·getD-eq-default (rowBlocks c bs) 0 {n = p / 64} (omega (arith, length-numbers 8 (rowBlockCount c bs) (drop (topBytes c + 1) bs)))) (omega arith)
+            held-zero (rowBlocks c bs) (p / 64) p (List·getD-eq-default (rowBlocks c bs) 0 {n = p / 64}
+            (omega (arith, length-numbers 8 (rowBlockCount c bs) (drop (topBytes c + 1) bs)))) (omega arith)
 
-pub row-walks : (c : Config) (bs : List ℕ) (k : ℕ) → (c .entry ≡ 2) ⊎ (c .entry ≡ 4) → W c ≡ 64 * k → W c ≤ 2 ^ 32 → length bs ≤ 2 ^ 32 → Faultless c bs
+pub row-walks : (c : Config) (bs : List ℕ) (k : ℕ) → (c .entry ≡ 2) ⊎ (c .entry ≡ 4) → W c ≡ 64 * k → W c ≤ 2 ^ 32
+    → length bs ≤ 2 ^ 32 → Faultless c bs
     → RowWalks (layoutOf c bs) bs 0 k
 unfolding rowEntries
 row-walks c bs k w e small len F = (

@@ -48,9 +48,11 @@ bits-past first bits i h = bits-in first bits i (omega arith) ∙ List·getD-eq-
 merged-digit : (tops : List ℕ) (first : ℕ) (bits : List ℕ) (i j : ℕ) → j < 64
     → merged tops first bits (64 * i + j) ≡ (digit (bitsAt first bits i) j || among tops (64 * i + j))
 unfolding merged bitsAt
-merged-digit tops first bits i j h = or-comm (among tops (64 * i + j)) _ ∙ ap (λ (b : Bool). b || among tops (64 * i + j)) (go (decLe first i))
+merged-digit tops first bits i j h =
+    or-comm (among tops (64 * i + j)) _ ∙ ap (λ (b : Bool). b || among tops (64 * i + j)) (go (decLe first i))
   where
-    go : Dec (first ≤ i) → (leb (64 * first) (64 * i + j) && held bits (64 * i + j - 64 * first)) ≡ digit (cond (leb first i) (getD bits (i - first) 0) 0) j
+    go : Dec (first ≤ i)
+        → (leb (64 * first) (64 * i + j) && held bits (64 * i + j - 64 * first)) ≡ digit (cond (leb first i) (getD bits (i - first) 0) 0) j
     go (yes l) =
         let e : 64 * i + j - 64 * first ≡ 64 * (i - first) + j = omega arith in
         rw (le-leb (64 * first) (64 * i + j) (omega arith), le-leb first i l, e) (held-block bits (i - first) j h)
@@ -72,7 +74,8 @@ ahead-start tops k f h = record { some = omega arith; falling = f; rest = λ p l
 
 -- ---- one block
 
-pub merge-start : {tops : List ℕ} {passed : ℕ} (first : ℕ) (bits : List ℕ) (i : ℕ) (block : ℕ) → block < 2 ^ 64 → block ≡ bitsAt first bits i
+pub merge-start : {tops : List ℕ} {passed : ℕ} (first : ℕ) (bits : List ℕ) (i : ℕ) (block : ℕ) → block < 2 ^ 64
+    → block ≡ bitsAt first bits i
     → Ahead tops passed (suc i) → Merging (merged tops first bits) tops i passed block
 merge-start {tops} {passed} first bits i block f e a =
     record {
@@ -86,17 +89,21 @@ merge-start {tops} {passed} first bits i block f e a =
     }
 
 module _ {S : Set} {tops : List ℕ} {i at block : ℕ} (t : Merging S tops i at block) where
-  pub merge-turn : {n : ℕ} (p : ℕ) → length tops ≡ n → at < n → p ≡ getD tops at 0 → p / 64 ≡ i → Merging S tops i (at + 1) (bitOr block (2 ^ (p % 64)))
+  pub merge-turn : {n : ℕ} (p : ℕ) → length tops ≡ n → at < n → p ≡ getD tops at 0 → p / 64 ≡ i
+      → Merging S tops i (at + 1) (bitOr block (2 ^ (p % 64)))
   merge-turn p len l ep ei =
       let h : at < length tops = omega arith in
-      let d : drop at tops ≡ p ∷ drop (at + 1) tops = drop-cons tops at 0 h ∙ ap₂ (λ (x y : ℕ). x ∷ drop y tops) (sym ep) (sym (add-one at)) in
+      let d : drop at tops ≡ p ∷ drop (at + 1) tops =
+      drop-cons tops at 0 h ∙ ap₂ (λ (x y : ℕ). x ∷ drop y tops) (sym ep) (sym (add-one at)) in
       let f : Falls (64 * suc i) (p ∷ drop (at + 1) tops) = subst (Falls (64 * suc i)) d (t .falling) in
       record {
         fits = or-lt 64 block (2 ^ (p % 64)) (t .fits) (pow-lt {i = p % 64} {j = 64} (omega arith));
         some = omega arith;
         small = t .small;
         falling = falls-more (drop (at + 1) tops) {m = p} {n = 64 * suc i} (omega (arith, f .0)) (f .1);
-        rest = λ p′ l. t .rest p′ l ∙ ap (λ (x : List ℕ). among x p′) d ∙ ap (λ (b : Bool). b || among (drop (at + 1) tops) p′) (ne-eqb p′ p (omega arith));
+        rest =
+            λ p′ l. t .rest p′ l ∙ ap (λ (x : List ℕ). among x p′) d
+            ∙ ap (λ (b : Bool). b || among (drop (at + 1) tops) p′) (ne-eqb p′ p (omega arith));
         are = λ j l. t .are j l ∙ ap (λ (x : List ℕ). digit block j || among x (64 * i + j)) d
             ∙ sym (or-assoc (digit block j) (eqb (64 * i + j) p) (among (drop (at + 1) tops) (64 * i + j)))
             ∙ ap (λ (b : Bool). (digit block j || b) || among (drop (at + 1) tops) (64 * i + j)) (here j l)
@@ -135,7 +142,8 @@ module _ {S : Set} {tops : List ℕ} {i at block : ℕ} (t : Merging S tops i at
 
 -- ---- how far down the next block is
 
-module _ {tops : List ℕ} {passed end : ℕ} (a : Ahead tops passed end) {first n b : ℕ} (B : Bounded first n end b) (bits : List ℕ) (size : length bits ≡ n) where
+module _ {tops : List ℕ} {passed end : ℕ} (a : Ahead tops passed end) {first n b : ℕ} (B : Bounded first n end b) (bits : List ℕ)
+    (size : length bits ≡ n) where
   -- what bounds both the blocks and the entries bounds the members
   reach-done : (e : ℕ) → b ≤ e → e ≤ end → Falls (64 * e) (drop passed tops) → Reached (merged tops first bits) tops passed end e
   reach-done e h l f =
@@ -144,7 +152,8 @@ module _ {tops : List ℕ} {passed end : ℕ} (a : Ahead tops passed end) {first
         empty = λ p x y.
             let q : p ≡ 64 * (p / 64) + p % 64 = omega arith in
             ap (merged tops first bits) q ∙ merged-digit tops first bits (p / 64) (p % 64) (omega arith)
-            ∙ ap₂ _||_ (ap (λ (w : ℕ). digit w (p % 64)) (void (p / 64) (B .past (p / 64) (omega arith) (omega arith))) ∙ digit-zero (p % 64))
+            ∙ ap₂ _||_ (ap (λ (w : ℕ). digit w (p % 64)) (void (p / 64) (B .past (p / 64) (omega arith) (omega arith)))
+            ∙ digit-zero (p % 64))
             (ap (among tops) (sym q) ∙ a .rest p y ∙ among-above (drop passed tops) (64 * e) p f x);
         ahead = record { some = a .some; falling = f; rest = λ p x. a .rest p (omega arith); small = omega (arith, a .small) };
       }
@@ -163,7 +172,8 @@ module _ {tops : List ℕ} {passed end : ℕ} (a : Ahead tops passed end) {first
       → Reached (merged tops first bits) tops passed end r
   reach-entry p i r len u ep ei er =
       let h : passed < length tops = omega arith in
-      let d : drop passed tops ≡ p ∷ drop (suc passed) tops = drop-cons tops passed 0 h ∙ ap (λ (x : ℕ). x ∷ drop (suc passed) tops) (sym ep) in
+      let d : drop passed tops ≡ p ∷ drop (suc passed) tops =
+      drop-cons tops passed 0 h ∙ ap (λ (x : ℕ). x ∷ drop (suc passed) tops) (sym ep) in
       let f : Falls (64 * end) (p ∷ drop (suc passed) tops) = subst (Falls (64 * end)) d (a .falling) in
       let l : p < 64 * r = omega arith in
       reach-done r (omega arith) (omega (arith, B .within, f .0)) (subst (Falls (64 * r)) (sym d) (l, f .1))
@@ -223,7 +233,8 @@ module _ {S R : Set} {tops others : List ℕ} {passed other end x y : ℕ} (a : 
     pub cross-other : Ahead others other (suc (e - 1))
     cross-other = step-ahead there z
 
-    pub cross-chunk : {v w p q : ℕ} → Passed S tops (e - 1) v p → Passed R others (e - 1) w q → Crossed S R tops others end (e - 1) (bitXor v w) v p q
+    pub cross-chunk : {v w p q : ℕ} → Passed S tops (e - 1) v p → Passed R others (e - 1) w q
+        → Crossed S R tops others end (e - 1) (bitXor v w) v p q
     cross-chunk u s =
         record {
           under = step-under here z;

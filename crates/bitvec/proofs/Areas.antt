@@ -56,7 +56,8 @@ lifted-more {m} {n} {k} {top₀} {blocks₀} {top} {blocks} {r} h clear l =
         same-held n blocks blocks₀ (l .bitRest) p (omega arith) ∙ z
         ∙ sym (ap (_&&_ (ltb p (boundary m (64 * k) S))) z ∙ and-false (ltb p (boundary m (64 * k) S)))
 
-module _ {m n k : ℕ} {top₀ blocks₀ top₁ top blocks : List ℕ} {r : ℕ} (room : Room m k top₀ blocks₀) (h : n ≤ k) (clear : Empty (held blocks₀) (64 * n) (64 * k))
+module _ {m n k : ℕ} {top₀ blocks₀ top₁ top blocks : List ℕ} {r : ℕ} (room : Room m k top₀ blocks₀) (h : n ≤ k)
+    (clear : Empty (held blocks₀) (64 * n) (64 * k))
     (first : Lifted m n top₀ blocks₀ top₁ blocks r) (z : top ≡ zeroed r m top₁) where
   all : Lifted m k top₀ blocks₀ top₁ blocks r
   all = lifted-more h clear first
@@ -85,7 +86,8 @@ module _ {m n k : ℕ} {top₀ blocks₀ top₁ top blocks : List ℕ} {r : ℕ}
       record {
         holds = record {
           countIs = all .count;
-          edgeIs = e ∙ ap (λ (l : List ℕ). getD l (m - 1) 0) z ∙ zeroed-is r m top₁ few room₁ f low high (m - 1) (omega (arith, room .some));
+          edgeIs =
+              e ∙ ap (λ (l : List ℕ). getD l (m - 1) 0) z ∙ zeroed-is r m top₁ few room₁ f low high (m - 1) (omega (arith, room .some));
           tops = ap (take m) z ∙ zeroed-tabulate r m top₁ few room₁ f low high;
           bits = held-blocks k blocks E (omega (arith, all .bitLength, room .blocksIn)) fit (all .bits);
         };

@@ -37,7 +37,8 @@ module _ (edge : ℕ) (blocks : List ℕ) (e : edge ≡ 0 → ⊥) where
 
   -- the spare byte, then the blocks
   pub part-some : blocksFor edge ≤ length blocks → ((i : ℕ) → getD blocks i 0 < 2 ^ 64) → Empty (held blocks) edge (64 * blocksFor edge)
-      → (old : List ℕ) (at n spare : ℕ) (now : List ℕ) → n ≡ blocksFor edge → spare ≡ spareByte edge → now ≡ sets (set old at spare) (at + 1) (bytesOf 8 (take n blocks))
+      → (old : List ℕ) (at n spare : ℕ) (now : List ℕ) → n ≡ blocksFor edge → spare ≡ spareByte edge → now
+      ≡ sets (set old at spare) (at + 1) (bytesOf 8 (take n blocks))
       → Wrote edge blocks old at (at + 1 + 8 * n) now
   part-some l f h old at n spare now k s w =
       let b : take (blocksFor edge) blocks ≡ rowBits edge (held blocks) =

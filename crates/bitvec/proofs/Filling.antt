@@ -6,7 +6,8 @@ use native.Mathlib.Decide.{decLt}
 use native.Mathlib.Numerals.{add-one}
 use native.Mathlib.Omega.{arith}
 use lib.Bits.{bitXor}
-use lib.ListN.{length, getD, take, drop, set, replicate, length-append, length-drop, length-replicate, length-set, take-append-drop, getD-replicate, replicate-append-replicate, List·getD-append}
+use lib.ListN.{length, getD, take, drop, set, replicate, length-append, length-drop, length-replicate, length-set, take-append-drop}
+use lib.ListN.{getD-replicate, replicate-append-replicate, List·getD-append}
 use lib.Seq.{drop-cons, drop-at, drop-drop, set-at, take-at, getD-take, getD-append-add, length-take-le}
 use Rattle.sets.specs.Sets.{apart, tabulate}
 use Rattle.sets.specs.Words.{digit, held}
@@ -22,7 +23,8 @@ pub record Filling (values : ℕ → List ℕ) (k : ℕ) (old now : List ℕ) (i
   pub are : now ≡ filled (values i) i old
   pub lengthIs : length now ≡ length old
 
-pub fill-start : (values : ℕ → List ℕ) (k : ℕ) (old : List ℕ) (i : ℕ) → i ≤ k → length (values i) ≡ i → old ≡ filled (values i) i old → Filling values k old old i
+pub fill-start : (values : ℕ → List ℕ) (k : ℕ) (old : List ℕ) (i : ℕ) → i ≤ k → length (values i) ≡ i
+    → old ≡ filled (values i) i old → Filling values k old old i
 fill-start values k old i h g e = record { high = h; given = g; are = e; lengthIs = refl }
 
 -- the next cell
@@ -32,7 +34,8 @@ filled-set xs old i v e h =
     ∙ set-at xs (getD old i 0) (drop (suc i) old) v i e
     ∙ sym (append-assoc xs (v ∷ []) (drop (suc i) old))
 
-pub fill-turn : {values : ℕ → List ℕ} {k : ℕ} {old now : List ℕ} {i : ℕ} (v : ℕ) → k ≤ length old → i < k → values (suc i) ≡ values i ++ (v ∷ [])
+pub fill-turn : {values : ℕ → List ℕ} {k : ℕ} {old now : List ℕ} {i : ℕ} (v : ℕ) → k ≤ length old → i < k
+    → values (suc i) ≡ values i ++ (v ∷ [])
     → Filling values k old now i → Filling values k old (set now i v) (i + 1)
 fill-turn {values} {k} {old} {now} {i} v n h e t =
     let s : i + 1 ≡ suc i = add-one i in
@@ -97,17 +100,20 @@ module _ (cells : List ℕ) (n : ℕ) (old : List ℕ) (e : length cells ≡ n) 
   filled-held p h = ap (λ (x : ℕ). digit x (p % 64)) (filled-at (p / 64) (omega arith))
 
 -- the first k blocks of another
-pub copied-held : (k : ℕ) (source old : List ℕ) → k ≤ length source → (p : ℕ) → p < 64 * k → held (filled (take k source) k old) p ≡ held source p
+pub copied-held : (k : ℕ) (source old : List ℕ) → k ≤ length source → (p : ℕ) → p < 64 * k
+    → held (filled (take k source) k old) p ≡ held source p
 unfolding held
 copied-held k source old n p h =
     filled-held (take k source) k old (length-take-le k source n) p h
     ∙ ap (λ (x : ℕ). digit x (p % 64)) (getD-take k source (p / 64) 0 (omega arith))
 
 -- those that a function gives
-tabulated-held : (k : ℕ) (f : ℕ → ℕ) (old : List ℕ) (p : ℕ) → p < 64 * k → held (filled (tabulate k f) k old) p ≡ digit (f (p / 64)) (p % 64)
+tabulated-held : (k : ℕ) (f : ℕ → ℕ) (old : List ℕ) (p : ℕ) → p < 64 * k
+    → held (filled (tabulate k f) k old) p ≡ digit (f (p / 64)) (p % 64)
 unfolding held
 tabulated-held k f old p h =
-    filled-held (tabulate k f) k old (length-tabulate k f) p h ∙ ap (λ (x : ℕ). digit x (p % 64)) (getD-tabulate k f (p / 64) 0 (omega arith))
+    filled-held (tabulate k f) k old (length-tabulate k f) p h
+    ∙ ap (λ (x : ℕ). digit x (p % 64)) (getD-tabulate k f (p / 64) 0 (omega arith))
 
 -- those of two, one with the other
 pub xored-held : (k : ℕ) (xs ys old : List ℕ) (p : ℕ) → p < 64 * k → held (filled (xored k xs ys) k old) p ≡ apart (held xs) (held ys) p

@@ -56,7 +56,8 @@ flipped l i j block one s e o =
     let r : (64 * i + j) % 64 ≡ j = omega arith in
     rw (d, r, e, o)
 
-module _ {m k : ℕ} {top₀ blocks₀ top blocks : List ℕ} {count i block : ℕ} (r : Room m k top₀ blocks₀) (t : Turn m k top₀ blocks₀ top blocks count i block) where
+module _ {m k : ℕ} {top₀ blocks₀ top blocks : List ℕ} {count i block : ℕ} (r : Room m k top₀ blocks₀)
+    (t : Turn m k top₀ blocks₀ top blocks count i block) where
   length-taken : length (take count top) ≡ count
   length-taken = length-take-le count top (omega (arith, t .few, t .topLength, r .cells))
 
@@ -124,7 +125,8 @@ module _ {m k : ℕ} {top₀ blocks₀ top blocks : List ℕ} {count i block : �
         go (yes n) = t .clear q n b
         go (no n) =
             let s : q ≡ 64 * i + (q - 64 * i) = omega arith in
-            ap (held blocks) s ∙ held-block blocks i (q - 64 * i) (omega arith) ∙ ap (λ (x : ℕ). digit x (q - 64 * i)) (t .inHand h) ∙ d .above (q - 64 * i) (omega arith)
+            ap (held blocks) s ∙ held-block blocks i (q - 64 * i) (omega arith)
+            ∙ ap (λ (x : ℕ). digit x (q - 64 * i)) (t .inHand h) ∙ d .above (q - 64 * i) (omega arith)
 
     pub turn : (p one : ℕ) → p ≡ 64 * i + j → one ≡ 2 ^ j
         → Turn m k top₀ blocks₀ (set top count p) (set blocks i (bitXor block one)) (count + 1) i (bitXor block one)
@@ -133,10 +135,12 @@ module _ {m k : ℕ} {top₀ blocks₀ top blocks : List ℕ} {count i block : �
         let L = lift-next (t .lifting) (64 * i + j) (64 * k) (omega arith) (t .lifting .within) (omega (arith, d .small)) isLeft above in
         let tk : take count top ++ ((64 * i + j) ∷ []) ≡ take (count + 1) (set top count p) =
         ap (λ (x : ℕ). take count top ++ (x ∷ [])) (sym e)
-        ∙ sym (ap (λ (x : ℕ). take x (set top count p)) (add-one count) ∙ take-suc-set top count p (omega (arith, t .topLength, r .cells))) in
+        ∙ sym (ap (λ (x : ℕ). take x (set top count p)) (add-one count)
+        ∙ take-suc-set top count p (omega (arith, t .topLength, r .cells))) in
         let hd : flip (64 * i + j) (held blocks) ≡ held (set blocks i (bitXor block one)) =
         sym (ap held (flipped blocks i j block one (d .small) (t .inHand h) o) ∙ held-flip blocks (64 * i + j) (omega (arith, d .small))) in
-        let L′ : Lifting (held blocks₀) (64 * k) (take (count + 1) (set top count p)) (held (set blocks i (bitXor block one))) (64 * i + j) =
+        let L′ : Lifting (held blocks₀) (64 * k) (take (count + 1) (set top count p)) (held (set blocks i (bitXor block one)))
+        (64 * i + j) =
         subst₂ (λ (x : List ℕ) (y : Set). Lifting (held blocks₀) (64 * k) x y (64 * i + j)) tk hd L in
         record {
           few = omega arith;

@@ -32,11 +32,13 @@ pub record Trimming (boundary : ℕ) (old now : List ℕ) (whole : ℕ) : Type 0
 module _ (boundary : ℕ) (l : List ℕ) (fit : (i : ℕ) → getD l i 0 < 2 ^ 64) where
   low-block : (i : ℕ) → i < boundary / 64 → getD l i 0 ≡ blockAt (trimmed boundary l) i
   low-block i h =
-      sym (held-word l i (fit i)) ∙ word-same (held l) (trimmed boundary l) (64 * i) 64 (λ j a. sym (below-in boundary (held l) (64 * i + j) (omega arith)))
+      sym (held-word l i (fit i))
+      ∙ word-same (held l) (trimmed boundary l) (64 * i) 64 (λ j a. sym (below-in boundary (held l) (64 * i + j) (omega arith)))
 
   cut-block : bitAnd (getD l (boundary / 64) 0) (2 ^ (boundary % 64) - 1) ≡ blockAt (trimmed boundary l) (boundary / 64)
   cut-block =
-      digits-same 64 (bitAnd v (2 ^ b - 1)) (blockAt (trimmed boundary l) i) (omega (arith, fit i, and-le-l v (2 ^ b - 1))) (word-lt (trimmed boundary l) (64 * i) 64)
+      digits-same 64 (bitAnd v (2 ^ b - 1)) (blockAt (trimmed boundary l) i) (omega (arith, fit i, and-le-l v (2 ^ b - 1)))
+      (word-lt (trimmed boundary l) (64 * i) 64)
       (λ j h. go j h (decLt j b) ∙ sym (digit-word (trimmed boundary l) (64 * i) 64 j h))
     where
       i : ℕ
@@ -50,9 +52,11 @@ module _ (boundary : ℕ) (l : List ℕ) (fit : (i : ℕ) → getD l i 0 < 2 ^ 6
 
       go : (j : ℕ) → j < 64 → Dec (j < b) → digit (bitAnd v (2 ^ b - 1)) j ≡ trimmed boundary l (64 * i + j)
       go j a (yes h) =
-          ap (λ (x : ℕ). digit x j) (and-mask v b) ∙ digit-low v b j h ∙ sym (below-in boundary (held l) (64 * i + j) (omega arith) ∙ held-block l i j a)
+          ap (λ (x : ℕ). digit x j) (and-mask v b) ∙ digit-low v b j h
+          ∙ sym (below-in boundary (held l) (64 * i + j) (omega arith) ∙ held-block l i j a)
       go j a (no h) =
-          digit-past (bitAnd v (2 ^ b - 1)) j (lt-of-lt-of-le (mask-lt v b) (pow-mono (omega arith))) ∙ sym (below-out boundary (held l) (64 * i + j) (omega arith))
+          digit-past (bitAnd v (2 ^ b - 1)) j (lt-of-lt-of-le (mask-lt v b) (pow-mono (omega arith)))
+          ∙ sym (below-out boundary (held l) (64 * i + j) (omega arith))
 
   module _ (index bit : ℕ) (x : index ≡ boundary / 64) (y : bit ≡ boundary % 64) (now : List ℕ) (whole : ℕ) where
     -- a boundary between two blocks
@@ -66,7 +70,8 @@ module _ (boundary : ℕ) (l : List ℕ) (fit : (i : ℕ) → getD l i 0 < 2 ^ 6
         }
 
     -- a boundary within a block
-    pub cut-one : (mask : ℕ) → 0 < bit → mask ≡ 2 ^ bit - 1 → index < length l → now ≡ set l index (bitAnd (getD l index 0) mask) → whole ≡ index + 1
+    pub cut-one : (mask : ℕ) → 0 < bit → mask ≡ 2 ^ bit - 1 → index < length l → now ≡ set l index (bitAnd (getD l index 0) mask)
+        → whole ≡ index + 1
         → Trimming boundary l now whole
     cut-one mask z m n e w =
         record {
@@ -84,7 +89,8 @@ module _ (boundary : ℕ) (l : List ℕ) (fit : (i : ℕ) → getD l i 0 < 2 ^ 6
         go i h (no q) = getD-set-other l index i v 0 q ∙ low-block i (omega arith)
 
 -- zeros from there on
-pub resized : {boundary whole : ℕ} {old cut now : List ℕ} (k : ℕ) → boundary ≤ 64 * k → k ≤ length old → Trimming boundary old cut whole → now ≡ zeroed whole k cut
+pub resized : {boundary whole : ℕ} {old cut now : List ℕ} (k : ℕ) → boundary ≤ 64 * k → k ≤ length old
+    → Trimming boundary old cut whole → now ≡ zeroed whole k cut
     → now ≡ filled (tabulate k (blockAt (trimmed boundary old))) k old
 resized {boundary} {whole} {old} {cut} k h n c z =
     let w : whole ≤ k = omega (arith, c .wholeIs) in

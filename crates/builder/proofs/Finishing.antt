@@ -15,10 +15,12 @@ use Rattle.diff_count.proofs.Flips.{becomes, flipped-at, flipped-rest}
 
 module _ {m k : ℕ} {top₀ blocks₀ : List ℕ} (pending bits : List ℕ) (count : ℕ) (room : Room m k top₀ blocks₀)
     (pre : (k ≤ length bits) × (count ≤ length pending) × Below (64 * k) (take count pending)) where
-  pub pending-fit : (blocks : List ℕ) → length blocks ≡ length blocks₀ → (count ≤ length pending) × Below (64 * length blocks) (take count pending)
+  pub pending-fit : (blocks : List ℕ) → length blocks ≡ length blocks₀
+      → (count ≤ length pending) × Below (64 * length blocks) (take count pending)
   pending-fit blocks n = (pre .1, λ i h. omega (arith, pre .2 i h, room .blocksIn))
 
-  module _ {b₁ b₂ : List ℕ} (n : length b₁ ≡ length blocks₀) (e₁ : b₁ ≡ filled (take k bits) k blocks₀) (e₂ : b₂ ≡ flipBits b₁ (take count pending)) where
+  module _ {b₁ b₂ : List ℕ} (n : length b₁ ≡ length blocks₀) (e₁ : b₁ ≡ filled (take k bits) k blocks₀)
+      (e₂ : b₂ ≡ flipBits b₁ (take count pending)) where
     built : Agree (64 * k) (held b₂) (builderSet pending bits count)
     built p h =
         let t : List ℕ = take count pending in
@@ -30,5 +32,6 @@ module _ {m k : ℕ} {top₀ blocks₀ : List ℕ} (pending bits : List ℕ) (co
         → Becomes m k (builderSet pending bits count) top₀ blocks₀ top blocks count′ edge′
     built-becomes s =
         becomes (builderSet pending bits count) blocks₀ built
-        (flipped-rest k b₁ (take count pending) b₂ (pre .2) e₂ ∙ ap (drop k) e₁ ∙ filled-rest (take k bits) k blocks₀ (length-take-le k bits (pre .0)))
+        (flipped-rest k b₁ (take count pending) b₂ (pre .2) e₂ ∙ ap (drop k) e₁
+        ∙ filled-rest (take k bits) k blocks₀ (length-take-le k bits (pre .0)))
         s

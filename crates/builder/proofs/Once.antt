@@ -13,11 +13,13 @@ use Rattle.builder.specs.declared.Builder.{Builder}
 use Rattle.builder.specs.declared.Built.{Built}
 use Rattle.builder.specs.declared.Built.the-variants.{Next}
 
-pub new-once : {n split : ℕ} {pending bits : List ℕ} {r r′ : Built} {p p′ q q′ : List ℕ} → News n split pending bits r p q → News n split pending bits r′ p′ q′
+pub new-once : {n split : ℕ} {pending bits : List ℕ} {r r′ : Built} {p p′ q q′ : List ℕ} → News n split pending bits r p q
+    → News n split pending bits r′ p′ q′
     → (r ≡ r′) × (p ≡ p′) × (q ≡ q′)
 new-once x y = (x .answers ∙ sym (y .answers), x .cells ∙ sym (y .cells), x .blocks ∙ sym (y .blocks))
 
-pub raise-once : (b : Builder) (pending bits : List ℕ) (split : ℕ) {r r′ : Built} → r ≡ raised b pending bits split → r′ ≡ raised b pending bits split → r ≡ r′
+pub raise-once : (b : Builder) (pending bits : List ℕ) (split : ℕ) {r r′ : Built} → r ≡ raised b pending bits split
+    → r′ ≡ raised b pending bits split → r ≡ r′
 raise-once b pending bits split x y = x ∙ sym y
 
 pub finish-once : (b : Builder) (pending bits top blocks : List ℕ) {r r′ : Made} {t t′ q q′ : List ℕ}
@@ -40,7 +42,8 @@ abbrev pub Alike : Verdict → Builder → Built → List ℕ → List ℕ → B
 Alike taken b r p q r′ p′ q′ = (x : Builder) × (y : Builder) × (r ≡ Next x) × (r′ ≡ Next y) × SameSet b x p q y p′ q′
 Alike (refused k) b r p q r′ p′ q′ = (r ≡ r′) × (p ≡ p′) × (q ≡ q′)
 
-pub push-once : (b : Builder) (pending bits list : List ℕ) (r r′ : Built) (p p′ q q′ : List ℕ) → Pushes b pending bits list r p q → Pushes b pending bits list r′ p′ q′
+pub push-once : (b : Builder) (pending bits list : List ℕ) (r r′ : Built) (p p′ q q′ : List ℕ) → Pushes b pending bits list r p q
+    → Pushes b pending bits list r′ p′ q′
     → Alike (pushVerdict b pending bits list) b r p q r′ p′ q′
 push-once b pending bits list r r′ p p′ q q′ x y = go (pushVerdict b pending bits list) x y
   where

@@ -12,7 +12,8 @@ use borrow.Author.Tests.{le-leb, lt-leb}
 use Rattle.sets.specs.Sets.{Below, allBelow}
 use Rattle.sets.specs.Configurations.{Config, W, blocks, configAt}
 use Rattle.sets.specs.Filter.{Rises, cleared, filled}
-use Rattle.sets.specs.Refusals.{Test, Verdict, taken, refused, range, firstFailing, verdict, builderAreas, builderLent, holdAreas, isSplit, areBuckets}
+use Rattle.sets.specs.Refusals.{Test, Verdict, taken, refused, range, firstFailing, verdict, builderAreas, builderLent, holdAreas, isSplit}
+use Rattle.sets.specs.Refusals.{areBuckets}
 use Rattle.sets.proofs.Configurations.{entry-width, line-at, whole-blocks}
 use Rattle.sets.proofs.Tests.{all-below}
 use Rattle.sets.proofs.Verdicts.{after-taken, after-refused}
@@ -31,14 +32,17 @@ use Rattle.diff_count.proofs.Outcomes.{makes-refused, makes-ready}
 use Rattle.diff_count.specs.declared.Made.the-variants as made
 use Rattle.judge_builder.specs.Judging.{areasOf, builderOf, targetOf}
 use Rattle.pending.proofs.Sound.{staged-sound}
-use Rattle.judge_builder.proofs.Verdicts.{Passes, areas-told, areas-refused, areas-pass, builder-told, builder-refused, builder-pass, target-told, target-refused, target-pass}
-use Rattle.builder.specs.Calls.{News, Pushed, PushOutcome, Pushes, Finishes, builderIn, configOf, finishVerdict, newVerdict, pushVerdict, raiseVerdict, raised, recordIn, setOf, stageOf}
+use Rattle.judge_builder.proofs.Verdicts.{Passes, areas-told, areas-refused, areas-pass, builder-told, builder-refused, builder-pass}
+use Rattle.judge_builder.proofs.Verdicts.{target-told, target-refused, target-pass}
+use Rattle.builder.specs.Calls.{News, Pushed, PushOutcome, Pushes, Finishes, builderIn, configOf, finishVerdict, newVerdict}
+use Rattle.builder.specs.Calls.{pushVerdict, raiseVerdict, raised, recordIn, setOf, stageOf}
 use Rattle.builder.specs.declared.Builder.{Builder}
 use Rattle.builder.specs.declared.Built.the-variants.{Next, Refused}
 
 -- ---- the last test, 2
 
-by-range : (ts : List Test) {b v : Bool} → firstFailing ts ≡ taken → b ≡ v → firstFailing (ts ++ ((range, b) ∷ [])) ≡ cond v taken (refused 2)
+by-range : (ts : List Test) {b v : Bool} → firstFailing ts ≡ taken → b ≡ v
+    → firstFailing (ts ++ ((range, b) ∷ [])) ≡ cond v taken (refused 2)
 by-range ts {b} t e = after-taken ts ((range, b) ∷ []) t ∙ ap (λ (x : Bool). cond x taken (refused 2)) e
 
 module _ (n : ℕ) (s : Sizes) (e : s ≡ sizesAt n) where
@@ -61,10 +65,12 @@ zeroed-cleared n l =
     ap (λ (x : ℕ). filled (replicate x 0) n l) e
 
 module _ (n split : ℕ) (pending bits : List ℕ) where
-  new-not : (x : Refusal) (k : ℕ) → newVerdict n split pending bits ≡ refused k → x ≡ refusal k → News n split pending bits (Refused x) pending bits
+  new-not : (x : Refusal) (k : ℕ) → newVerdict n split pending bits ≡ refused k → x ≡ refusal k
+      → News n split pending bits (Refused x) pending bits
   new-not x k e q = record { answers = rw e (ap (λ (y : Refusal). Refused y) q); cells = rw e; blocks = rw e }
 
-  pub new-refused : (x : Refusal) → areasOf n (length pending) (length bits) ≡ sizes.Refused x → News n split pending bits (Refused x) pending bits
+  pub new-refused : (x : Refusal) → areasOf n (length pending) (length bits) ≡ sizes.Refused x
+      → News n split pending bits (Refused x) pending bits
   unfolding newVerdict
   new-refused x q =
       let a = areas-refused n (length pending) (length bits) x q in
@@ -82,9 +88,11 @@ module _ (n split : ℕ) (pending bits : List ℕ) where
 
     pub new-past : s .buckets < split → News n split pending bits (Refused (refusal 2)) pending bits
     unfolding newVerdict
-    new-past h = new-not (refusal 2) 2 (by-range (builderAreas n (length pending) (length bits)) (sized .0) (split-past n s (sized .1) split h)) refl
+    new-past h =
+        new-not (refusal 2) 2 (by-range (builderAreas n (length pending) (length bits)) (sized .0) (split-past n s (sized .1) split h)) refl
 
-    pub new-next : {pending′ bits′ : List ℕ} → split ≤ s .buckets → pending′ ≡ zeroed 0 (2 * s .top) pending → bits′ ≡ zeroed 0 (s .blocks) bits
+    pub new-next : {pending′ bits′ : List ℕ} → split ≤ s .buckets → pending′ ≡ zeroed 0 (2 * s .top) pending
+        → bits′ ≡ zeroed 0 (s .blocks) bits
         → News n split pending bits (Next (builderIn n split 0)) pending′ bits′
     unfolding newVerdict sizesAt
     new-next h x y =
@@ -135,17 +143,21 @@ module _ (b : Builder) (pending bits : List ℕ) where
           refuses (λ y. Refused y) (Next (builderIn (b .config) (max (b .split) split) (b .count)))
           (2, by-range lent (told s q .0) (split-past (b .config) s (told s q .1) split h), refl)
 
-      pub raise-next : (to : ℕ) → split ≤ s .buckets → to ≡ max (b .split) split → Next (builderIn (b .config) to (b .count)) ≡ raised b pending bits split
+      pub raise-next : (to : ℕ) → split ≤ s .buckets → to ≡ max (b .split) split
+          → Next (builderIn (b .config) to (b .count)) ≡ raised b pending bits split
       unfolding raiseVerdict raised
       raise-next to h e =
           takes (λ y. Refused y) (Next (builderIn (b .config) (max (b .split) split) (b .count)))
-          (by-range lent (told s q .0) (split-fits (b .config) s (told s q .1) split h)) (ap (λ (x : ℕ). Next (builderIn (b .config) x (b .count))) e)
+          (by-range lent (told s q .0) (split-fits (b .config) s (told s q .1) split h))
+          (ap (λ (x : ℕ). Next (builderIn (b .config) x (b .count))) e)
 
   -- push
   module _ (list : List ℕ) where
-    push-not : (x : Refusal) (k : ℕ) → pushVerdict b pending bits list ≡ refused k → x ≡ refusal k → Pushes b pending bits list (Refused x) pending bits
+    push-not : (x : Refusal) (k : ℕ) → pushVerdict b pending bits list ≡ refused k → x ≡ refusal k
+        → Pushes b pending bits list (Refused x) pending bits
     push-not x k e q =
-        subst (λ (v : Verdict). PushOutcome v b pending bits list (Refused x) pending bits) (sym e) (ap (λ (y : Refusal). Refused y) q, refl, refl)
+        subst (λ (v : Verdict). PushOutcome v b pending bits list (Refused x) pending bits) (sym e)
+        (ap (λ (y : Refusal). Refused y) q, refl, refl)
 
     pub push-refused : (x : Refusal) → asked ≡ sizes.Refused x → Pushes b pending bits list (Refused x) pending bits
     unfolding pushVerdict
@@ -185,13 +197,16 @@ module _ (b : Builder) (pending bits : List ℕ) where
               (
                 subst (λ (x : ℕ). 0 < x) (sym l) (pow-pos (configAt n .B)),
                 subst (λ (x : ℕ). x ≤ 2 ^ 32) (sym l) (omega (arith, line-at n .small)),
-                subst (λ (x : ℕ). Below x list) (sym (whole-blocks (configAt n) (line-at n .sound))) (all-below (W (configAt n)) list (by-list h)),
+                subst (λ (x : ℕ). Below x list) (sym (whole-blocks (configAt n) (line-at n .sound)))
+                    (all-below (W (configAt n)) list (by-list h)),
               ),
             ),
           )
 
-      pushed : {pending′ bits′ : List ℕ} {r : Stage} → Moves (configOf b .M) (blocks (configOf b)) (2 ^ (configOf b .B)) list pending bits (stageOf b) pending′ bits′ r
-          → Stays (configOf b .M) list (stageOf b) r → Pushed b pending bits list (builderIn (b .config) (r .split) (r .count)) pending′ bits′
+      pushed : {pending′ bits′ : List ℕ} {r : Stage}
+          → Moves (configOf b .M) (blocks (configOf b)) (2 ^ (configOf b .B)) list pending bits (stageOf b) pending′ bits′ r
+          → Stays (configOf b .M) list (stageOf b) r
+          → Pushed b pending bits list (builderIn (b .config) (r .split) (r .count)) pending′ bits′
       unfolding sizesAt
       pushed {pending′} {bits′} {r} M S =
           let c : Config = configOf b in
@@ -214,13 +229,16 @@ module _ (b : Builder) (pending bits : List ℕ) where
       unfolding pushVerdict sizesAt
       push-next {pending′} {bits′} {r} h M =
           let n : ℕ = b .config in
-          let N = subst (λ (x : Sizes). Moves (x .top) (x .blocks) (shifted x) list pending bits (stageOf b) pending′ bits′ r × Stays (x .top) list (stageOf b) r) (told s q .1) M in
+          let N = subst (λ (x : Sizes). Moves (x .top) (x .blocks) (shifted x) list pending bits (stageOf b) pending′ bits′ r
+          × Stays (x .top) list (stageOf b) r) (told s q .1) M in
           let next : Builder = builderIn n (r .split) (r .count) in
-          subst (λ (v : Verdict). PushOutcome v b pending bits list (Next next) pending′ bits′) (sym (by-range lent (told s q .0) (by-list h))) (
+          subst (λ (v : Verdict). PushOutcome v b pending bits list (Next next) pending′ bits′)
+          (sym (by-range lent (told s q .0) (by-list h))) (
             next,
             refl,
             pushed
-                (subst (λ (x : ℕ). Moves (configOf b .M) (blocks (configOf b)) x list pending bits (stageOf b) pending′ bits′ r) (level-at n) (N .0))
+                (subst (λ (x : ℕ). Moves (configOf b .M) (blocks (configOf b)) x list pending bits (stageOf b) pending′ bits′ r)
+                (level-at n) (N .0))
                 (N .1),
           )
 
@@ -237,7 +255,8 @@ module _ (b : Builder) (pending bits to toBits : List ℕ) where
       makes-refused (finishVerdict b pending bits to toBits) (configOf b) (setOf b pending bits) to toBits x (a .0) (a .1) (a .2)
 
   module _ (s : Sizes) (q : answered ≡ sizes.Known s) where
-    aimed : (verdict (builderLent (recordIn b) pending bits ++ holdAreas (configOf b) (length to) (length toBits)) ≡ taken) × (s ≡ sizesAt (b .config))
+    aimed : (verdict (builderLent (recordIn b) pending bits ++ holdAreas (configOf b) (length to) (length toBits)) ≡ taken)
+        × (s ≡ sizesAt (b .config))
     aimed = target-told (b .config) (stageOf b) pending bits (length to) (length toBits) s q
 
     all-pass : Passes (b .config) (stageOf b) pending bits × (configOf b .M ≤ length to) × (blocks (configOf b) ≤ length toBits)
@@ -249,13 +268,17 @@ module _ (b : Builder) (pending bits to toBits : List ℕ) where
     finish-asks =
         let P = all-pass .0 in
         subst
-        (λ (x : Sizes). Room (x .top) (x .blocks) to toBits × ((x .blocks ≤ length bits) × (b .count ≤ length pending) × Below (64 * x .blocks) (take (b .count) pending)))
+        (λ (x : Sizes). Room (x .top) (x .blocks) to toBits
+        × ((x .blocks ≤ length bits) × (b .count ≤ length pending) × Below (64 * x .blocks) (take (b .count) pending)))
         (sym (aimed .1)) (
           record { some = omega (arith, P .room .some); cells = all-pass .1; blocksIn = all-pass .2; small = P .room .small },
           (P .room .blocksIn, omega (arith, P .staged .few, P .room .cells), P .staged .inRange),
         )
 
-    pub finish-ready : {to′ toBits′ : List ℕ} {count edge : ℕ} → Becomes (s .top) (s .blocks) (setOf b pending bits) to toBits to′ toBits′ count edge
+    pub finish-ready : {to′ toBits′ : List ℕ} {count edge : ℕ}
+        → Becomes (s .top) (s .blocks) (setOf b pending bits) to toBits to′ toBits′ count edge
         → Finishes b pending bits to toBits (made.Ready (record { config = b .config; count = count; boundary = edge })) to′ toBits′
     unfolding finishVerdict
-    finish-ready B = makes-ready (finishVerdict b pending bits to toBits) (b .config) (setOf b pending bits) to toBits s (aimed .0) (all-pass .0 .known) (aimed .1) B
+    finish-ready B =
+        makes-ready (finishVerdict b pending bits to toBits) (b .config) (setOf b pending bits) to toBits s (aimed .0)
+        (all-pass .0 .known) (aimed .1) B

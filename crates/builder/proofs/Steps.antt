@@ -19,7 +19,8 @@ use Rattle.pending.specs.Stages.{stageAt}
 use Rattle.pending.proofs.Sound.{sound-staged, staged-sound}
 use Rattle.diff_count.specs.declared.Made.{Made}
 use Rattle.diff_count.proofs.Theorems.{InPlace, Lent, settled}
-use Rattle.builder.specs.Calls.{Finishes, News, Pushed, PushOutcome, Pushes, builderIn, finishVerdict, newVerdict, pushVerdict, raised, raiseVerdict}
+use Rattle.builder.specs.Calls.{Finishes, News, Pushed, PushOutcome, Pushes, builderIn, finishVerdict, newVerdict, pushVerdict}
+use Rattle.builder.specs.Calls.{raised, raiseVerdict}
 use Rattle.builder.specs.declared.Builder.{Builder}
 use Rattle.builder.specs.declared.Built.{Built}
 use Rattle.builder.specs.declared.Built.the-variants.{Next}
@@ -55,7 +56,8 @@ module _ (k : ℕ) (old : List ℕ) where
 -- ---- sound builders
 
 -- no bit stands at or above a higher split either
-raised-sound : (n : ℕ) (p q : List ℕ) (count split to : ℕ) → to ≤ W (configAt n) → isBuilder (configAt n .M) (W (configAt n)) p q count split ≡ true
+raised-sound : (n : ℕ) (p q : List ℕ) (count split to : ℕ) → to ≤ W (configAt n)
+    → isBuilder (configAt n .M) (W (configAt n)) p q count split ≡ true
     → isBuilder (configAt n .M) (W (configAt n)) p q count (max split to) ≡ true
 raised-sound n p q count split to l h =
     let S = sound-staged n p q (stageAt split count) h in
@@ -76,7 +78,8 @@ module _ (n : ℕ) (k : known n ≡ true) where
   new-passes split p₀ q₀ l L = rw (k, le-leb _ _ (L .cells), le-leb _ _ (L .blocks), le-leb _ _ l)
 
   -- a new builder holds the empty set
-  pub new-step : (split : ℕ) (p₀ q₀ : List ℕ) {r : Built} {p q : List ℕ} → split ≤ W (configAt n) → Ample n p₀ q₀ → News n split p₀ q₀ r p q → Carries n none p₀ q₀ r p q
+  pub new-step : (split : ℕ) (p₀ q₀ : List ℕ) {r : Built} {p q : List ℕ} → split ≤ W (configAt n) → Ample n p₀ q₀
+      → News n split p₀ q₀ r p q → Carries n none p₀ q₀ r p q
   new-step split p₀ q₀ {r} {p} {q} l L N =
       let c : Config = configAt n in
       let v = new-passes split p₀ q₀ l L in
@@ -118,10 +121,12 @@ module _ (n : ℕ) (k : known n ≡ true) where
     push-passes list w = rw (k, le-leb _ _ (C .room .cells), le-leb _ _ (C .room .blocks), C .sound, w)
 
     -- pushing flips the set by the buckets listed
-    pub push-step : (list : List ℕ) {r : Built} {p′ q′ : List ℕ} → allBelow (W (configAt n)) list ≡ true → Pushes b p q list r p′ q′ → Carries n (flips list S) p₀ q₀ r p′ q′
+    pub push-step : (list : List ℕ) {r : Built} {p′ q′ : List ℕ} → allBelow (W (configAt n)) list ≡ true
+        → Pushes b p q list r p′ q′ → Carries n (flips list S) p₀ q₀ r p′ q′
     push-step list {r} {p′} {q′} w P =
         let O : PushOutcome taken now p q list r p′ q′ =
-        subst (λ (u : Verdict). PushOutcome u now p q list r p′ q′) (push-passes list w) (subst (λ (x : Builder). Pushes x p q list r p′ q′) is-now P) in
+        subst (λ (u : Verdict). PushOutcome u now p q list r p′ q′) (push-passes list w)
+        (subst (λ (x : Builder). Pushes x p q list r p′ q′) is-now P) in
         let x : Builder = O .0 in
         let D : Pushed now p q list x p′ q′ = O .2 in
         record {
@@ -139,7 +144,8 @@ module _ (n : ℕ) (k : known n ≡ true) where
     pub raise-step : (s : ℕ) {r : Built} → s ≤ W (configAt n) → r ≡ raised b p q s → Carries n S p₀ q₀ r p q
     unfolding raised raiseVerdict
     raise-step s l e =
-        let v : raiseVerdict now p q s ≡ taken = rw (k, le-leb _ _ (C .room .cells), le-leb _ _ (C .room .blocks), C .sound, le-leb _ _ l) in
+        let v : raiseVerdict now p q s ≡ taken =
+        rw (k, le-leb _ _ (C .room .cells), le-leb _ _ (C .room .blocks), C .sound, le-leb _ _ l) in
         record {
           split = max (C .split) s;
           count = C .count;
@@ -152,9 +158,17 @@ module _ (n : ℕ) (k : known n ≡ true) where
         }
 
     -- finishing writes the filter of the set
-    pub finish-step : (to toBits : List ℕ) {r : Made} {t b′ : List ℕ} → Lent n to toBits → Finishes b p q to toBits r t b′ → InPlace n S to toBits r t b′
+    pub finish-step : (to toBits : List ℕ) {r : Made} {t b′ : List ℕ} → Lent n to toBits → Finishes b p q to toBits r t b′
+        → InPlace n S to toBits r t b′
     unfolding finishVerdict
     finish-step to toBits {r} {t} {b′} L F =
         settled n k (finishVerdict now p q to toBits) (builderSet p q (C .count)) S to toBits to toBits
-        (rw (k, le-leb _ _ (C .room .cells), le-leb _ _ (C .room .blocks), le-leb _ _ (L .tops), le-leb _ _ (L .blocks), C .sound)) (C .sets) refl refl
+        (rw (
+          k,
+          le-leb _ _ (C .room .cells),
+          le-leb _ _ (C .room .blocks),
+          le-leb _ _ (L .tops),
+          le-leb _ _ (L .blocks),
+          C .sound,
+        )) (C .sets) refl refl
         (subst (λ (x : Builder). Finishes x p q to toBits r t b′) is-now F)

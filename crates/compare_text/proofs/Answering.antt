@@ -31,7 +31,8 @@ module _ (input out : List ℕ) where
   leftBy v = answer v (λ n. out) (filled (compareText input) (length (compareText input)) out)
 
   -- the text stands in an array of its own, n bytes long
-  module _ {bytes text text′ : List ℕ} {n : ℕ} (e : bytes ≡ compareText input) (p : Puts 322 bytes text 0 text′ n) (l : 322 ≤ length text) where
+  module _ {bytes text text′ : List ℕ} {n : ℕ} (e : bytes ≡ compareText input) (p : Puts 322 bytes text 0 text′ n)
+      (l : 322 ≤ length text) where
     text-is : take n text′ ≡ compareText input
     text-is = put-taken p (omega (arith, p .end, p .near)) ∙ e
 

@@ -12,7 +12,9 @@ use Rattle.sets.specs.Configurations.{Config, W, known, configAt}
 use Rattle.sets.specs.Filter.{recordOf}
 use Rattle.sets.specs.Refusals.{Verdict, answer, filterLent, filtersLent, inOrder, isMask, refused, taken, verdict}
 use Rattle.sets.specs.Row.{shownRow}
-use Rattle.sets.specs.Text.{Cut, Judged as Text·Judged, Mask, andThen, atLine, compareText, compared, configLine, cut, cutAt, fromHex, is, judgedInput, judgedMasked, judgedRows, judgedSecond, largestInput, malformed, maskLine, newline, nothingFollows, printed, refusedAt, rowLine, unlessRefused, whole}
+use Rattle.sets.specs.Text.{Cut, Judged as Text·Judged, Mask, andThen, atLine, compareText, compared, configLine, cut, cutAt, fromHex, is}
+use Rattle.sets.specs.Text.{judgedInput, judgedMasked, judgedRows, judgedSecond, largestInput, malformed, maskLine, newline, nothingFollows}
+use Rattle.sets.specs.Text.{printed, refusedAt, rowLine, unlessRefused, whole}
 use Rattle.sets.proofs.Configurations.{number-at}
 use Rattle.sets.proofs.Verdicts.{after-taken}
 use Rattle.sizes.specs.Sizes.{refusal}
@@ -146,8 +148,10 @@ module _ (n : ℕ) (bs : List ℕ) (f : Filter) (top bits : List ℕ) (R : Read 
   read-lent = lent-taken (of-passes f top bits T (R .filter))
 
 -- the figures are asked of filters that pass
-pub figures-asks : (f : Filter) (top bits bs : List ℕ) (g : Filter) (top2 bits2 : List ℕ) (m : Mask) → verdict (filterLent (recordIn f) top bits) ≡ taken
-    → Read (f .config) bs g top2 bits2 → verdict (isMask (m .mask) (m .size)) ≡ taken → cmpVerdict f top bits g top2 bits2 (m .mask) (m .size) ≡ taken
+pub figures-asks : (f : Filter) (top bits bs : List ℕ) (g : Filter) (top2 bits2 : List ℕ) (m : Mask)
+    → verdict (filterLent (recordIn f) top bits) ≡ taken
+    → Read (f .config) bs g top2 bits2 → verdict (isMask (m .mask) (m .size))
+    ≡ taken → cmpVerdict f top bits g top2 bits2 (m .mask) (m .size) ≡ taken
 unfolding cmpVerdict
 figures-asks f top bits bs g top2 bits2 m p R q =
     after-taken (inOrder 0 9 (filtersLent (recordIn f) top bits (recordIn g) top2 bits2)) (isMask (m .mask) (m .size))
@@ -163,7 +167,8 @@ module _ (n : ℕ) (m : Mask) (S : Set) (s : List ℕ) where
   second-missing e = rw e
 
   module _ (end : ℕ) (l : Line s end) where
-    pub second-refused : (k : ℕ) → rowLine (configAt n) 4 (take end s) ≡ refusedAt k 4 → spelled (judged.RefusedAt k 4) ≡ printed (judgedSecond (configAt n) m S s)
+    pub second-refused : (k : ℕ) → rowLine (configAt n) 4 (take end s) ≡ refusedAt k 4
+        → spelled (judged.RefusedAt k 4) ≡ printed (judgedSecond (configAt n) m S s)
     unfolding judgedSecond spelled
     second-refused k e = rw (l .cuts, e)
 
@@ -183,13 +188,15 @@ module _ (n : ℕ) (m : Mask) (S : Set) (s : List ℕ) where
           rw (l .cuts, R .told 4, nothing-left text (rest s end) (omega (arith, rest-length s end l, h))) in
           ap (λ (y : Figures). spelled (judged.Is y)) e
           ∙ compared-spelled (configAt n) m S (shownBy g top bits)
-          ∙ compared-agree n m S S (shownBy g top bits) (shownRow (configAt n) (R .row)) (λ p q. refl) (read-shows n (take end s) g top bits R)
+          ∙ compared-agree n m S S (shownBy g top bits) (shownRow (configAt n) (R .row)) (λ p q. refl)
+          (read-shows n (take end s) g top bits R)
           ∙ sym a
 
 -- ---- the first row
 
 -- of the first row's set only what is below W counts
-second-agree : (n : ℕ) (m : Mask) (S T : Set) (s : List ℕ) → Agree (W (configAt n)) S T → judgedSecond (configAt n) m S s ≡ judgedSecond (configAt n) m T s
+second-agree : (n : ℕ) (m : Mask) (S T : Set) (s : List ℕ) → Agree (W (configAt n)) S T
+    → judgedSecond (configAt n) m S s ≡ judgedSecond (configAt n) m T s
 unfolding judgedSecond
 second-agree n m S T s h = by-cut (cutAt newline s)
   where
@@ -197,12 +204,15 @@ second-agree n m S T s h = by-cut (cutAt newline s)
         → andThen j (λ row. nothingFollows tail (compared (configAt n) m S (shownRow (configAt n) row)))
         ≡ andThen j (λ row. nothingFollows tail (compared (configAt n) m T (shownRow (configAt n) row)))
     by-row (is row) tail =
-        ap (λ (l : List ℕ). nothingFollows tail l) (compared-agree n m S T (shownRow (configAt n) row) (shownRow (configAt n) row) h (λ p q. refl))
+        ap (λ (l : List ℕ). nothingFollows tail l) (compared-agree n m S T (shownRow (configAt n) row)
+        (shownRow (configAt n) row) h (λ p q. refl))
     by-row (refusedAt k l) tail = refl
 
     by-cut : (x : Cut)
-        → atLine 4 x (λ fourth tail. andThen (rowLine (configAt n) 4 fourth) (λ row. nothingFollows tail (compared (configAt n) m S (shownRow (configAt n) row))))
-        ≡ atLine 4 x (λ fourth tail. andThen (rowLine (configAt n) 4 fourth) (λ row. nothingFollows tail (compared (configAt n) m T (shownRow (configAt n) row))))
+        → atLine 4 x (λ fourth tail. andThen (rowLine (configAt n) 4 fourth)
+        (λ row. nothingFollows tail (compared (configAt n) m S (shownRow (configAt n) row))))
+        ≡ atLine 4 x (λ fourth tail. andThen (rowLine (configAt n) 4 fourth)
+        (λ row. nothingFollows tail (compared (configAt n) m T (shownRow (configAt n) row))))
     by-cut whole = refl
     by-cut (cut fourth tail) = by-row (rowLine (configAt n) 4 fourth) tail
 
@@ -212,7 +222,8 @@ module _ (n : ℕ) (m : Mask) (s : List ℕ) where
   first-missing e = rw e
 
   module _ (end : ℕ) (l : Line s end) where
-    pub first-refused : (k : ℕ) → rowLine (configAt n) 3 (take end s) ≡ refusedAt k 3 → spelled (judged.RefusedAt k 3) ≡ printed (judgedRows (configAt n) m s)
+    pub first-refused : (k : ℕ) → rowLine (configAt n) 3 (take end s) ≡ refusedAt k 3
+        → spelled (judged.RefusedAt k 3) ≡ printed (judgedRows (configAt n) m s)
     unfolding judgedRows spelled
     first-refused k e = rw (l .cuts, e)
 
@@ -241,11 +252,13 @@ module _ (n : ℕ) (s : List ℕ) where
   masked-missing e = rw e
 
   module _ (end : ℕ) (l : Line s end) where
-    pub masked-refused : (k : ℕ) → maskLine (take end s) ≡ refusedAt k 2 → spelled (judged.RefusedAt k 2) ≡ printed (judgedMasked (configAt n) s)
+    pub masked-refused : (k : ℕ) → maskLine (take end s) ≡ refusedAt k 2
+        → spelled (judged.RefusedAt k 2) ≡ printed (judgedMasked (configAt n) s)
     unfolding judgedMasked spelled
     masked-refused k e = rw (l .cuts, e)
 
-    pub masked-judged : (m : Mask) (r : Judged) → maskLine (take end s) ≡ is m → spelled r ≡ printed (judgedRows (configAt n) m (rest s end)) → spelled r ≡ printed (judgedMasked (configAt n) s)
+    pub masked-judged : (m : Mask) (r : Judged) → maskLine (take end s) ≡ is m
+        → spelled r ≡ printed (judgedRows (configAt n) m (rest s end)) → spelled r ≡ printed (judgedMasked (configAt n) s)
     unfolding judgedMasked
     masked-judged m r e q = q ∙ sym (rw (l .cuts, e))
 
@@ -265,6 +278,7 @@ module _ (s : List ℕ) (few : length s ≤ largestInput) where
     unfolding compareText judgedInput spelled
     input-refused k e = rw (le-ltb _ _ few, l .cuts, e)
 
-    pub input-judged : (n : ℕ) (r : Judged) → configLine (take end s) ≡ is n → spelled r ≡ printed (judgedMasked (configAt n) (rest s end)) → spelled r ≡ compareText s
+    pub input-judged : (n : ℕ) (r : Judged) → configLine (take end s) ≡ is n
+        → spelled r ≡ printed (judgedMasked (configAt n) (rest s end)) → spelled r ≡ compareText s
     unfolding compareText judgedInput
     input-judged n r e q = q ∙ sym (rw (le-ltb _ _ few, l .cuts, e))

@@ -28,10 +28,12 @@ unfolding compared spelled figuresOf
 compared-spelled c m S T =
     let x : Figures = figuresOf c (m .mask) (m .size) S T in
     let o : Ordering = orderOf (W c) (m .mask) (m .size) S T in
-    joined (countsText x) (orderText (orderTold o)) (line "order" (orderWord o ∷ [])) (line "key" (toHex 16 (x .first .key) ∷ toHex 16 (x .second .key) ∷ []))
+    joined (countsText x) (orderText (orderTold o)) (line "order" (orderWord o ∷ []))
+    (line "key" (toHex 16 (x .first .key) ∷ toHex 16 (x .second .key) ∷ []))
     (line "overlap" (toDecimal (x .overlap) ∷ [])) (order-line o)
 
-pub compared-agree : (n : ℕ) (m : Mask) (S S′ T T′ : Set) → Agree (W (configAt n)) S S′ → Agree (W (configAt n)) T T′ → compared (configAt n) m S T ≡ compared (configAt n) m S′ T′
+pub compared-agree : (n : ℕ) (m : Mask) (S S′ T T′ : Set) → Agree (W (configAt n)) S S′ → Agree (W (configAt n)) T T′
+    → compared (configAt n) m S T ≡ compared (configAt n) m S′ T′
 compared-agree n m S S′ T T′ x y =
     sym (compared-spelled (configAt n) m S T)
     ∙ ap (λ (z : Figures). spelled (judged.Is z)) (figures-agree n (m .mask) (m .size) S S′ T T′ x y)

@@ -13,7 +13,9 @@ use Rattle.sets.specs.Filter.{exactCountAt, filled, limitedBoundAt, limitedCoun
 use Rattle.sets.specs.Masks.{Ordering, less, equal, greater, keyOf, orderOf}
 use Rattle.sets.specs.Refusals.{Verdict, taken, refused, answer}
 use Rattle.sets.specs.Row.{shownRow}
-use Rattle.sets.specs.Text.{Cut, whole, cut, Judged, is, refusedAt, Mask, andThen, atLine, compareText, compared, configLine, cutAt, fields, judgedInput, judgedMasked, judgedRows, judgedSecond, largestInput, line, malformed, maskLine, newline, nothingFollows, orderWord, overlap, printed, rowLine, text, toDecimal, toHex}
+use Rattle.sets.specs.Text.{Cut, whole, cut, Judged, is, refusedAt, Mask, andThen, atLine, compareText, compared, configLine, cutAt, fields}
+use Rattle.sets.specs.Text.{judgedInput, judgedMasked, judgedRows, judgedSecond, largestInput, line, malformed, maskLine, newline}
+use Rattle.sets.specs.Text.{nothingFollows, orderWord, overlap, printed, rowLine, text, toDecimal, toHex}
 use Rattle.sizes.specs.Sizes.{refusal}
 use Rattle.encode.proofs.Chains.{decimal-length}
 use Rattle.compare_text.specs.Answers.{Compares, textVerdict}
@@ -23,7 +25,8 @@ use Rattle.compare_text.proofs.Answering.{fits}
 
 -- ---- two outcomes that the promise allows coincide
 
-pub compares-once : (input out : List ℕ) {r r′ : TextAnswer} {o o′ : List ℕ} → Compares input out r o → Compares input out r′ o′ → (r ≡ r′) × (o ≡ o′)
+pub compares-once : (input out : List ℕ) {r r′ : TextAnswer} {o o′ : List ℕ} → Compares input out r o → Compares input out r′ o′
+    → (r ≡ r′) × (o ≡ o′)
 compares-once input out x y = (x .answers ∙ sym (y .answers), x .bytes ∙ sym (y .bytes))
 
 -- ---- the bytes that were written
@@ -101,7 +104,8 @@ then-fits : {A : Type 0} (j : Judged A) (f : A → Judged (List ℕ)) → ((a : 
 then-fits (is a) f h = h a
 then-fits (refusedAt n l) f h = refusal-fits n l
 
-line-fits : (l : ℕ) (x : Cut) (f : List ℕ → List ℕ → Judged (List ℕ)) → ((before rest : List ℕ) → Fits (f before rest)) → Fits (atLine l x f)
+line-fits : (l : ℕ) (x : Cut) (f : List ℕ → List ℕ → Judged (List ℕ)) → ((before rest : List ℕ) → Fits (f before rest))
+    → Fits (atLine l x f)
 line-fits l whole f h = refusal-fits 11 l
 line-fits l (cut before rest) f h = h before rest
 
@@ -135,5 +139,6 @@ longest input = go (ltb largestInput (length input)) .short
     go false = input-fits input
 
 -- A buffer of 322 bytes is long enough for every input.
-pub never-short : (input out : List ℕ) {r : TextAnswer} {out′ : List ℕ} → 322 ≤ length out → Compares input out r out′ → r ≡ texts.Written (length (compareText input))
+pub never-short : (input out : List ℕ) {r : TextAnswer} {out′ : List ℕ} → 322 ≤ length out → Compares input out r out′
+    → r ≡ texts.Written (length (compareText input))
 never-short input out h w = w .answers ∙ rw (fits input out (omega (arith, longest input)))

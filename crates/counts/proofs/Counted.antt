@@ -24,7 +24,8 @@ use Rattle.counts.specs.declared.CountAnswer.the-variants as counts
 use Rattle.counts.specs.declared.LimitedAnswer.the-variants as limits
 
 -- the last of a filter's top entries is that of the set
-pub last-is : {m k : ℕ} {top bits : List ℕ} {count edge : ℕ} → Fits m k top bits count edge → getD (take count top) (count - 1) 0 ≡ lastEntry m (64 * k) (shown top bits count edge)
+pub last-is : {m k : ℕ} {top bits : List ℕ} {count edge : ℕ} → Fits m k top bits count edge
+    → getD (take count top) (count - 1) 0 ≡ lastEntry m (64 * k) (shown top bits count edge)
 last-is F = ap₂ (λ (l : List ℕ) (i : ℕ). getD l (i - 1) 0) (holds-tops (F .holds)) (F .holds .countIs)
 
 -- ---- the counts of sets that agree are the same
@@ -56,7 +57,8 @@ module _ {c : Config} {s : Sizes} (Z : Sized c s) (S : Set) where
 module _ (f : Filter) (top bits : List ℕ) (s : Sizes) where
   module _ (O : One f top bits s) (n : ℕ) (e : n ≡ blocksFor (f .boundary)) where
     pub one-exact : (r : ℕ)
-        → ((m k edge : ℕ) (top : List ℕ) (S : Set) → 0 < m → n ≡ blocksFor edge → Holds m k top bits (f .count) edge S → r ≡ exactCount (64 * k) S)
+        → ((m k edge : ℕ) (top : List ℕ) (S : Set) → 0 < m → n ≡ blocksFor edge → Holds m k top bits (f .count) edge S → r
+        ≡ exactCount (64 * k) S)
         → counts.Count r ≡ exactOf f top bits
     unfolding exactOf
     one-exact r h =

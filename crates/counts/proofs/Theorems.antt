@@ -53,7 +53,8 @@ module _ (f : Filter) (top bits : List ℕ) (S : Set) (o : Of f top bits S) wher
       (ap (λ (x : Limited). limits.Count x) (sym (limited-agree (f .config) (shownBy f top bits) S (of-shown f top bits S o)))))
 
 -- on the filters of S and of T it counts their symmetric difference
-module _ (f : Filter) (top bits : List ℕ) (S : Set) (o : Of f top bits S) (g : Filter) (top2 bits2 : List ℕ) (T : Set) (q : Of g top2 bits2 T) (e : f .config ≡ g .config) where
+module _ (f : Filter) (top bits : List ℕ) (S : Set) (o : Of f top bits S) (g : Filter) (top2 bits2 : List ℕ) (T : Set)
+    (q : Of g top2 bits2 T) (e : f .config ≡ g .config) where
   abbrev seen : Set
   seen = apart (shownBy f top bits) (shownBy g top2 bits2)
 
@@ -75,7 +76,8 @@ module _ (f : Filter) (top bits : List ℕ) (S : Set) (o : Of f top bits S) (g :
       (ap (λ (x : Limited). limits.Count x) (sym (limited-agree (f .config) seen (apart S T) agrees))))
 
 -- so the order of the two does not matter
-module _ (f : Filter) (top bits : List ℕ) (S : Set) (o : Of f top bits S) (g : Filter) (top2 bits2 : List ℕ) (T : Set) (q : Of g top2 bits2 T) (e : f .config ≡ g .config) where
+module _ (f : Filter) (top bits : List ℕ) (S : Set) (o : Of f top bits S) (g : Filter) (top2 bits2 : List ℕ) (T : Set)
+    (q : Of g top2 bits2 T) (e : f .config ≡ g .config) where
   pub exact-swap : exactDifferenceOf f top bits g top2 bits2 ≡ exactDifferenceOf g top2 bits2 f top bits
   exact-swap =
       exact-difference-counts f top bits S o g top2 bits2 T q e
@@ -89,7 +91,8 @@ module _ (f : Filter) (top bits : List ℕ) (S : Set) (o : Of f top bits S) (g :
       ∙ sym (limited-difference-counts g top2 bits2 T q f top bits S o (sym e))
 
 -- and of two filters of one set the count is 0
-pub exact-same : (f : Filter) (top bits : List ℕ) (g : Filter) (top2 bits2 : List ℕ) (S : Set) → Of f top bits S → Of g top2 bits2 S → f .config ≡ g .config
+pub exact-same : (f : Filter) (top bits : List ℕ) (g : Filter) (top2 bits2 : List ℕ) (S : Set) → Of f top bits S
+    → Of g top2 bits2 S → f .config ≡ g .config
     → exactDifferenceOf f top bits g top2 bits2 ≡ counts.Count 0
 exact-same f top bits g top2 bits2 S o q e =
     exact-difference-counts f top bits S o g top2 bits2 S q e

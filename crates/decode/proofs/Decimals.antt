@@ -82,13 +82,15 @@ pub decimal-empty : (s : List ℕ) → length s ≡ 0 → number.Malformed ≡ n
 decimal-empty [] h = refl
 decimal-empty (b ∷ bs) h = absurd (omega arith)
 
-pub decimal-zero : (s : List ℕ) → (length s ≡ 0 → ⊥) → getD s 0 0 ≡ 48 → not (eqb (length s) 1) ≡ true → number.Malformed ≡ numberIn (decimal s)
+pub decimal-zero : (s : List ℕ) → (length s ≡ 0 → ⊥) → getD s 0 0 ≡ 48 → not (eqb (length s) 1) ≡ true
+    → number.Malformed ≡ numberIn (decimal s)
 decimal-zero [] n e m = absurd (n refl)
 decimal-zero (b ∷ []) n e m = absurd (true≢false (sym m))
 decimal-zero (b ∷ d ∷ ds) n e m = rw (eq-eqb b 48 e, and-false (all isDigit (b ∷ d ∷ ds)))
 
 -- with no leading zero the digits decide
-pub decimal-spelled : (s : List ℕ) → (length s ≡ 0 → ⊥) → (not (eqb (length s) 1) ≡ false) ⊎ (getD s 0 0 ≡ 48 → ⊥) → numberIn (spelled s) ≡ numberIn (decimal s)
+pub decimal-spelled : (s : List ℕ) → (length s ≡ 0 → ⊥) → (not (eqb (length s) 1) ≡ false) ⊎ (getD s 0 0 ≡ 48 → ⊥)
+    → numberIn (spelled s) ≡ numberIn (decimal s)
 decimal-spelled [] n w = absurd (n refl)
 decimal-spelled (b ∷ []) n w = refl
 decimal-spelled (b ∷ d ∷ ds) n (inr m) = rw (ne-eqb b 48 m)

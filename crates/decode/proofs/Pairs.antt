@@ -28,7 +28,14 @@ pub record Decoding (s to₀ : List ℕ) (n : ℕ) (to : List ℕ) (i : ℕ) : T
   pub decoded : pairs s ≡ take i to ++ pairs (drop (2 * i) s)
 
 pub decoding-start : (s to : List ℕ) → length s ≤ 2 * length to → length s % 2 ≡ 0 → Decoding s to (length s / 2) to 0
-decoding-start s to h e = record { even = omega arith; room = omega arith; few = omega arith; long = refl; hexadecimal = refl; decoded = refl }
+decoding-start s to h e = record {
+  even = omega arith;
+  room = omega arith;
+  few = omega arith;
+  long = refl;
+  hexadecimal = refl;
+  decoded = refl;
+}
 
 module _ {s to₀ : List ℕ} {n : ℕ} {to : List ℕ} {i : ℕ} (t : Decoding s to₀ n to i) where
   module _ (h : i < n) (x y : ℕ) (e : x ≡ hexValue (getD s (2 * i) 0)) (f : y ≡ hexValue (getD s (2 * i + 1) 0)) where

@@ -19,7 +19,8 @@ use Rattle.decode.specs.Parts.{Starts}
 abbrev pub Unmarked : ℕ → List ℕ → ℕ → Type 0
 Unmarked mark s i = (j : ℕ) → j < i → getD s j 0 ≡ mark → ⊥
 
-pub cut-found : (mark : ℕ) (s : List ℕ) (i : ℕ) → i < length s → Unmarked mark s i → getD s i 0 ≡ mark → cutAt mark s ≡ cut (take i s) (drop (suc i) s)
+pub cut-found : (mark : ℕ) (s : List ℕ) (i : ℕ) → i < length s → Unmarked mark s i → getD s i 0 ≡ mark
+    → cutAt mark s ≡ cut (take i s) (drop (suc i) s)
 cut-found mark [] i h n e = absurd (omega arith)
 cut-found mark (b ∷ bs) zero h n e = rw (eq-eqb b mark e)
 cut-found mark (b ∷ bs) (suc i) h n e =
@@ -52,7 +53,8 @@ after-other (w ∷ ws) [] i h n = refl
 after-other (w ∷ ws) (b ∷ bs) zero h n = rw (ne-eqb b w n)
 after-other (w ∷ ws) (b ∷ bs) (suc i) h n = rw (after-other ws bs i (omega arith) n, none-left (eqb b w))
 
-pub after-word : (word s : List ℕ) (i : ℕ) → length word ≤ length s → length word ≤ i → Alike s word i → after word s ≡ some (drop (length word) s)
+pub after-word : (word s : List ℕ) (i : ℕ) → length word ≤ length s → length word ≤ i → Alike s word i
+    → after word s ≡ some (drop (length word) s)
 after-word [] s i h l a = refl
 after-word (w ∷ ws) [] i h l a = absurd (omega arith)
 after-word (w ∷ ws) (b ∷ bs) zero h l a = absurd (omega arith)

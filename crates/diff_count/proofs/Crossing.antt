@@ -43,20 +43,23 @@ module _ (n k : ℕ) (bits : List ℕ) (h : n ≤ k) (l : k ≤ length bits) whe
   zeroed-low p a =
       let i : p / 64 < n = omega arith in
       ap (λ (x : ℕ). digit x (p % 64))
-      (sym (getD-take n (zeroed n k bits) (p / 64) 0 i) ∙ ap (λ (x : List ℕ). getD x (p / 64) 0) (zeroed-first n k bits h l) ∙ getD-take n bits (p / 64) 0 i)
+      (sym (getD-take n (zeroed n k bits) (p / 64) 0 i) ∙ ap (λ (x : List ℕ). getD x (p / 64) 0) (zeroed-first n k bits h l)
+      ∙ getD-take n bits (p / 64) 0 i)
 
   zeroed-high : Empty (held (zeroed n k bits)) (64 * n) (64 * k)
   unfolding held
   zeroed-high p a b = ap (λ (x : ℕ). digit x (p % 64)) (zeroed-zero n k bits h l (p / 64) (omega arith) (omega arith)) ∙ digit-zero (p % 64)
 
-module _ {k a b n : ℕ} {xs ys : List ℕ} (old : List ℕ) (X : BitsBelow k a xs) (Y : BitsBelow k b ys) (r : k ≤ length old) (e : n ≡ blocksFor (max a b)) where
+module _ {k a b n : ℕ} {xs ys : List ℕ} (old : List ℕ) (X : BitsBelow k a xs) (Y : BitsBelow k b ys) (r : k ≤ length old)
+    (e : n ≡ blocksFor (max a b)) where
   pub bits-fit : (n ≤ length old) × (n ≤ length xs) × (n ≤ length ys)
   bits-fit = (omega (arith, X .low, Y .low), omega (arith, X .low, Y .low, X .room), omega (arith, X .low, Y .low, Y .room))
 
   pub zeros-fit : (mid : List ℕ) → length mid ≡ length old → (n ≤ k) × (k ≤ length mid)
   zeros-fit mid s = (omega (arith, X .low, Y .low), omega arith)
 
-  pub bits-apart : {mid now : List ℕ} → length mid ≡ length old → mid ≡ filled (xored n xs ys) n old → now ≡ zeroed n k mid → BitsApart k xs ys old now
+  pub bits-apart : {mid now : List ℕ} → length mid ≡ length old → mid ≡ filled (xored n xs ys) n old → now ≡ zeroed n k mid
+      → BitsApart k xs ys old now
   bits-apart {mid} {now} s f g =
       let z = zeros-fit mid s in
       record {
@@ -86,7 +89,8 @@ module _ {m k : ℕ} {to₀ toBits₀ top bits top₂ bits₂ : List ℕ} {count
   pub xor-fits : ((k ≤ length toBits₀) × (64 * k ≤ 2 ^ 32)) × (BitsBelow k edge bits × BitsBelow k edge₂ bits₂)
   xor-fits = ((room .blocksIn, room .small), (bits-below (room .some) H, bits-below (room .some) G))
 
-  module _ {b₁ b₂ b₃ : List ℕ} (n : length b₁ ≡ length toBits₀) (x₁ : BitsApart k bits bits₂ toBits₀ b₁) (e₂ : b₂ ≡ flipBits b₁ (take count top))
+  module _ {b₁ b₂ b₃ : List ℕ} (n : length b₁ ≡ length toBits₀) (x₁ : BitsApart k bits bits₂ toBits₀ b₁)
+      (e₂ : b₂ ≡ flipBits b₁ (take count top))
       (e₃ : b₃ ≡ flipBits b₂ (take count₂ top₂)) where
     crossed : Agree (64 * k) (held b₃) (apart S R)
     crossed p h =
@@ -109,7 +113,8 @@ module _ {m k : ℕ} {to₀ toBits₀ top bits top₂ bits₂ : List ℕ} {count
               (apart-empty S R (64 * n) (64 * k) (tops-empty H n (room .some) t) (tops-empty G n (room .some) (v .covers))),
         )
 
-    pub cross-becomes : {to toBits : List ℕ} {count′ edge′ : ℕ} → SplitOf m k to₀ b₃ to toBits count′ edge′ → Becomes m k (apart S R) to₀ toBits₀ to toBits count′ edge′
+    pub cross-becomes : {to toBits : List ℕ} {count′ edge′ : ℕ} → SplitOf m k to₀ b₃ to toBits count′ edge′
+        → Becomes m k (apart S R) to₀ toBits₀ to toBits count′ edge′
     cross-becomes s =
         becomes (apart S R) toBits₀ crossed
         (flipped-rest k b₂ (take count₂ top₂) b₃ (holds-below G) e₃

@@ -58,7 +58,8 @@ all-flipped : (blocks blocks′ list : List ℕ) → blocks′ ≡ flipBits bloc
 all-flipped blocks blocks′ list e = e ∙ ap (flipBits blocks) (take-length list)
 
 -- the filter of the set that the blocks came to hold
-pub becomes : {m k : ℕ} {top₀ bits₁ top bits : List ℕ} {count edge : ℕ} (S : Set) (bits₀ : List ℕ) → Agree (64 * k) (held bits₁) S → drop k bits₁ ≡ drop k bits₀
+pub becomes : {m k : ℕ} {top₀ bits₁ top bits : List ℕ} {count edge : ℕ} (S : Set) (bits₀ : List ℕ) → Agree (64 * k) (held bits₁) S
+    → drop k bits₁ ≡ drop k bits₀
     → SplitOf m k top₀ bits₁ top bits count edge → Becomes m k S top₀ bits₀ top bits count edge
 becomes {m} {k} {top₀} {bits₁} S bits₀ g r s =
     record { holds = holds-same m k (held bits₁) S g (s .holds); topRest = s .topRest; bitRest = s .bitRest ∙ r }
@@ -68,15 +69,18 @@ becomes {m} {k} {top₀} {bits₁} S bits₀ g r s =
 differ-swap : (a b x : Bool) → differ a (differ b x) ≡ differ b (differ a x)
 differ-swap a b x = sym (differ-assoc a b x) ∙ ap (λ (d : Bool). differ d x) (differ-comm a b) ∙ differ-assoc b a x
 
-module _ {m k : ℕ} {top₀ bits₀ : List ℕ} {count₀ edge₀ : ℕ} {S : Set} (list : List ℕ) (room : Room m k top₀ bits₀) (H : Holds m k top₀ bits₀ count₀ edge₀ S)
+module _ {m k : ℕ} {top₀ bits₀ : List ℕ} {count₀ edge₀ : ℕ} {S : Set} (list : List ℕ) (room : Room m k top₀ bits₀)
+    (H : Holds m k top₀ bits₀ count₀ edge₀ S)
     (w : Below (64 * k) list) where
   pub fold-fits : (count₀ ≤ length top₀) × (k ≤ length bits₀) × Below (64 * k) (take count₀ top₀)
   fold-fits = (count-fits H, room .blocksIn, holds-below H)
 
-  pub list-fits : (blocks : List ℕ) → length blocks ≡ length bits₀ → (length list ≤ length list) × Below (64 * length blocks) (take (length list) list)
+  pub list-fits : (blocks : List ℕ) → length blocks ≡ length bits₀
+      → (length list ≤ length list) × Below (64 * length blocks) (take (length list) list)
   list-fits blocks n = (omega arith, rw take-length (λ i h. omega (arith, w i h, room .blocksIn)))
 
-  module _ {bits₁ bits₂ : List ℕ} (n : length bits₁ ≡ length bits₀) (f : Folded k top₀ count₀ bits₀ bits₁) (e : bits₂ ≡ flipBits bits₁ (take (length list) list)) where
+  module _ {bits₁ bits₂ : List ℕ} (n : length bits₁ ≡ length bits₀) (f : Folded k top₀ count₀ bits₀ bits₁)
+      (e : bits₂ ≡ flipBits bits₁ (take (length list) list)) where
     whole : bits₂ ≡ flipBits bits₁ list
     whole = all-flipped bits₁ bits₂ list e
 
@@ -86,19 +90,23 @@ module _ {m k : ℕ} {top₀ bits₀ : List ℕ} {count₀ edge₀ : ℕ} {S : S
         ∙ ap (differ (odd list p)) (f .sets m edge₀ S (room .some) H p h)
         ∙ sym (flips-at list S p)
 
-    pub flip-ends : {n₀ n : ℕ} → UpTo (take count₀ top₀) 0 n₀ → UpTo (take (length list) list) n₀ n → (n ≤ k) × Empty (held bits₂) (64 * n) (64 * k)
+    pub flip-ends : {n₀ n : ℕ} → UpTo (take count₀ top₀) 0 n₀ → UpTo (take (length list) list) n₀ n
+        → (n ≤ k) × Empty (held bits₂) (64 * n) (64 * k)
     flip-ends {n₀} {n} u v =
         let l : Below (64 * n) list = subst (Below (64 * n)) (take-length list) (v .covers) in
         let t : Below (64 * n) (take count₀ top₀) = λ i h. omega (arith, u .covers i h, v .low) in (
           v .high k (u .high k (omega arith) (holds-below H)) (subst (Below (64 * k)) (sym (take-length list)) w),
-          agree-empty (held bits₂) (flips list S) (64 * n) (64 * k) flipped (flips-empty list S (64 * n) (64 * k) l (tops-empty H n (room .some) t)),
+          agree-empty (held bits₂) (flips list S) (64 * n) (64 * k) flipped
+              (flips-empty list S (64 * n) (64 * k) l (tops-empty H n (room .some) t)),
         )
 
-    pub flip-becomes : {top bits : List ℕ} {count edge : ℕ} → SplitOf m k top₀ bits₂ top bits count edge → Becomes m k (flips list S) top₀ bits₀ top bits count edge
+    pub flip-becomes : {top bits : List ℕ} {count edge : ℕ} → SplitOf m k top₀ bits₂ top bits count edge
+        → Becomes m k (flips list S) top₀ bits₀ top bits count edge
     flip-becomes s = becomes (flips list S) bits₀ flipped (flipped-rest k bits₁ list bits₂ w whole ∙ f .bitRest) s
 
   -- where each bucket listed is below the edge, the top list stays
-  module _ {bits : List ℕ} (u : Below edge₀ list) (fit : (i : ℕ) → getD bits i 0 < 2 ^ 64) (e : bits ≡ flipBits bits₀ (take (length list) list)) where
+  module _ {bits : List ℕ} (u : Below edge₀ list) (fit : (i : ℕ) → getD bits i 0 < 2 ^ 64)
+      (e : bits ≡ flipBits bits₀ (take (length list) list)) where
     whole-bits : bits ≡ flipBits bits₀ list
     whole-bits = all-flipped bits₀ bits list e
 

@@ -30,7 +30,9 @@ of-set n k S top bits =
     let e : c .number ≡ n = number-at n k in
     record {
       known = ap known e ∙ k;
-      stands = subst (λ (x : ℕ). Stands (configAt x) (recordOf c S) (topSlice c S top) (bitSlice c S bits) S) (sym e) (stands-slices c (line-at n .sound) S top bits);
+      stands =
+          subst (λ (x : ℕ). Stands (configAt x) (recordOf c S) (topSlice c S top) (bitSlice c S bits) S) (sym e)
+          (stands-slices c (line-at n .sound) S top bits);
     }
 
 module _ (f : Filter) (top bits : List ℕ) (S : Set) (o : Of f top bits S) where
@@ -44,8 +46,10 @@ module _ (f : Filter) (top bits : List ℕ) (S : Set) (o : Of f top bits S) wher
   of-shown = shown-back c (line-at (f .config) .sound) (recordIn f) top bits S (o .stands)
 
 -- two that pass, of one configuration
-pub both-pass : (f : Filter) (top bits : List ℕ) (g : Filter) (top2 bits2 : List ℕ) → Passes (f .config) (tallyOf f) top bits → Passes (g .config) (tallyOf g) top2 bits2
+pub both-pass : (f : Filter) (top bits : List ℕ) (g : Filter) (top2 bits2 : List ℕ) → Passes (f .config) (tallyOf f) top bits
+    → Passes (g .config) (tallyOf g) top2 bits2
     → f .config ≡ g .config → verdict (filtersLent (recordIn f) top bits (recordIn g) top2 bits2) ≡ taken
 both-pass f top bits g top2 bits2 p q e =
-    subst (λ (n : ℕ). Passes n (tallyOf g) top2 bits2 → verdict (filtersLent (recordIn f) top bits (record { config = n; count = g .count; boundary = g .boundary }) top2 bits2) ≡ taken) e
+    subst (λ (n : ℕ). Passes n (tallyOf g) top2 bits2
+    → verdict (filtersLent (recordIn f) top bits (record { config = n; count = g .count; boundary = g .boundary }) top2 bits2) ≡ taken) e
     (λ x. both-taken p x) q

@@ -26,7 +26,8 @@ use Rattle.bitvec.specs.Cells.{zeroed}
 use Rattle.bitvec.specs.Parts.{Becomes, Room}
 use Rattle.bitvec.proofs.Filling.{zeroed-rest, zeroed-tabulate}
 use Rattle.judge.specs.Judging.{areasOf, filterOf, twoOf}
-use Rattle.judge.proofs.Verdicts.{Passes, room-of, areas-room, areas-told, areas-refused, areas-pass, filter-told, filter-refused, filter-pass, two-told, two-refused, two-pass}
+use Rattle.judge.proofs.Verdicts.{Passes, room-of, areas-room, areas-told, areas-refused, areas-pass, filter-told, filter-refused}
+use Rattle.judge.proofs.Verdicts.{filter-pass, two-told, two-refused, two-pass}
 use Rattle.diff_count.specs.Making.{Makes, filterIn, recordIn, tallyOf}
 use Rattle.diff_count.specs.Calls.{Empties, Toggles, Differs, emptyVerdict, toggleVerdict, differenceVerdict, shownBy}
 use Rattle.diff_count.specs.declared.Filter.{Filter}
@@ -39,7 +40,8 @@ module _ (v : Verdict) (c : Config) (S : Set) (top bits : List ℕ) where
   makes-refused x k e q = record { answers = rw e (ap (λ (y : Refusal). Refused y) q); tops = rw e; blocks = rw e }
 
 -- the filter of S was made
-pub makes-ready : (v : Verdict) (n : ℕ) (S : Set) (top bits : List ℕ) (s : Sizes) {top′ bits′ : List ℕ} {count edge : ℕ} → v ≡ taken → known n ≡ true → s ≡ sizesAt n
+pub makes-ready : (v : Verdict) (n : ℕ) (S : Set) (top bits : List ℕ) (s : Sizes) {top′ bits′ : List ℕ} {count edge : ℕ}
+    → v ≡ taken → known n ≡ true → s ≡ sizesAt n
     → Becomes (s .top) (s .blocks) S top bits top′ bits′ count edge
     → Makes v (configAt n) S top bits (Ready (record { config = n; count = count; boundary = edge })) top′ bits′
 unfolding sizesAt
@@ -57,7 +59,8 @@ makes-ready v n S top bits s {top′} {bits′} {count} {edge} t a e B₀ =
 -- ---- empty
 
 -- zeros are the empty set's filter
-zeros-none : (m k : ℕ) (top bits : List ℕ) → m ≤ length top → k ≤ length bits → Becomes m k none top bits (zeroed 0 m top) (zeroed 0 k bits) 0 0
+zeros-none : (m k : ℕ) (top bits : List ℕ) → m ≤ length top → k ≤ length bits
+    → Becomes m k none top bits (zeroed 0 m top) (zeroed 0 k bits) 0 0
 unfolding topCells bitCells
 zeros-none m k top bits h l =
     let e : members none (64 * k) ≡ [] = members-none none (64 * k) (λ p a. refl) in
@@ -65,7 +68,9 @@ zeros-none m k top bits h l =
       holds = record {
         countIs = omega (arith, ap length e);
         edgeIs = sym (ap (λ (x : List ℕ). getD x (m - 1) 0) e);
-        tops = zeroed-tabulate 0 m top (omega arith) h (λ i. getD (members none (64 * k)) i 0) (λ i a. absurd (omega arith)) (λ i a b. ap (λ (x : List ℕ). getD x i 0) e);
+        tops =
+            zeroed-tabulate 0 m top (omega arith) h (λ i. getD (members none (64 * k)) i 0) (λ i a. absurd (omega arith))
+            (λ i a b. ap (λ (x : List ℕ). getD x i 0) e);
         bits = zeroed-tabulate 0 k bits (omega arith) l (blockAt (bitsOf m (64 * k) none)) (λ i a. absurd (omega arith))
             (λ i a b. word-none (bitsOf m (64 * k) none) (64 * i) 64 (λ j d. and-none (boundary m (64 * k) none) (64 * i + j)));
       };
@@ -94,12 +99,14 @@ module _ (n : ℕ) (top bits : List ℕ) where
     empty-ready {top′} {bits′} x y =
         let a = areas-told n (length top) (length bits) s q in
         makes-ready (emptyVerdict n top bits) n none top bits s (a .0) (areas-pass n (length top) (length bits) (a .0) .0) (a .1)
-        (subst₂ (λ (t b : List ℕ). Becomes (s .top) (s .blocks) none top bits t b 0 0) (sym x) (sym y) (zeros-none (s .top) (s .blocks) top bits (areas-room n top bits s q .cells) (areas-room n top bits s q .blocksIn)))
+        (subst₂ (λ (t b : List ℕ). Becomes (s .top) (s .blocks) none top bits t b 0 0) (sym x) (sym y)
+        (zeros-none (s .top) (s .blocks) top bits (areas-room n top bits s q .cells) (areas-room n top bits s q .blocksIn)))
 
 -- ---- toggle
 
 module _ (f : Filter) (top bits list : List ℕ) where
-  pub toggle-refused : (x : Refusal) → filterOf (f .config) (tallyOf f) top bits ≡ sizes.Refused x → Toggles f top bits list (Refused x) top bits
+  pub toggle-refused : (x : Refusal) → filterOf (f .config) (tallyOf f) top bits ≡ sizes.Refused x
+      → Toggles f top bits list (Refused x) top bits
   unfolding toggleVerdict
   toggle-refused x q =
       let a = filter-refused (f .config) (tallyOf f) top bits x q in
@@ -121,24 +128,35 @@ module _ (f : Filter) (top bits list : List ℕ) where
         ∙ ap (λ (b : Bool). cond b taken (refused 2)) (ap (λ (x : Sizes). allBelow (x .buckets) list) (sym (told .1)) ∙ sym h)
 
     pub toggle-past : false ≡ allBelow (s .buckets) list → Toggles f top bits list (Refused (refusal 2)) top bits
-    toggle-past h = makes-refused (toggleVerdict f top bits list) (configAt (f .config)) (flips list (shownBy f top bits)) top bits (refusal 2) 2 (by-list false h) refl
+    toggle-past h =
+        makes-refused (toggleVerdict f top bits list) (configAt (f .config)) (flips list (shownBy f top bits)) top bits
+        (refusal 2) 2 (by-list false h) refl
 
     pub toggle-asks : true ≡ allBelow (s .buckets) list
-        → Room (s .top) (s .blocks) top bits × ((isFilter (s .top) (s .blocks) top bits (f .count) (f .boundary) ≡ true) × Below (64 * (s .blocks)) list)
+        → Room (s .top) (s .blocks) top bits
+        × ((isFilter (s .top) (s .blocks) top bits (f .count) (f .boundary) ≡ true) × Below (64 * (s .blocks)) list)
     unfolding sizesAt
     toggle-asks h =
         let n : ℕ = f .config in
         let w : allBelow (W (configAt n)) list ≡ true = ap (λ (x : Sizes). allBelow (x .buckets) list) (sym (told .1)) ∙ sym h in
         subst
-        (λ (x : Sizes). Room (x .top) (x .blocks) top bits × ((isFilter (x .top) (x .blocks) top bits (f .count) (f .boundary) ≡ true) × Below (64 * (x .blocks)) list))
-        (sym (told .1))
-        (passes .room, (passes .sound, subst (λ (x : ℕ). Below x list) (sym (whole-blocks (configAt n) (line-at n .sound))) (all-below (W (configAt n)) list w)))
+        (λ (x : Sizes). Room (x .top) (x .blocks) top bits
+        × ((isFilter (x .top) (x .blocks) top bits (f .count) (f .boundary) ≡ true) × Below (64 * (x .blocks)) list))
+        (sym (told .1)) (
+          passes .room,
+          (
+            passes .sound,
+            subst (λ (x : ℕ). Below x list) (sym (whole-blocks (configAt n) (line-at n .sound)))
+                (all-below (W (configAt n)) list w),
+          ),
+        )
 
     pub toggle-ready : {top′ bits′ : List ℕ} {count edge : ℕ} → true ≡ allBelow (s .buckets) list
         → Becomes (s .top) (s .blocks) (flips list (shownBy f top bits)) top bits top′ bits′ count edge
         → Toggles f top bits list (Ready (record { config = f .config; count = count; boundary = edge })) top′ bits′
     toggle-ready h B =
-        makes-ready (toggleVerdict f top bits list) (f .config) (flips list (shownBy f top bits)) top bits s (by-list true h) (passes .known) (told .1) B
+        makes-ready (toggleVerdict f top bits list) (f .config) (flips list (shownBy f top bits)) top bits s (by-list true h)
+        (passes .known) (told .1) B
 
 -- ---- symmetric_difference
 
@@ -157,13 +175,15 @@ module _ (f : Filter) (top bits : List ℕ) (g : Filter) (top2 bits2 to toBits :
 
   module _ (s : Sizes) (q : answered ≡ sizes.Known s) where
     pub difference-asks : Room (s .top) (s .blocks) to toBits
-        × ((isFilter (s .top) (s .blocks) top bits (f .count) (f .boundary) ≡ true) × (isFilter (s .top) (s .blocks) top2 bits2 (g .count) (g .boundary) ≡ true))
+        × ((isFilter (s .top) (s .blocks) top bits (f .count) (f .boundary) ≡ true)
+        × (isFilter (s .top) (s .blocks) top2 bits2 (g .count) (g .boundary) ≡ true))
     difference-asks =
         let a = two-told (f .config) (tallyOf f) top bits (g .config) (tallyOf g) top2 bits2 (length to) (length toBits) s q in
         let p = two-pass (f .config) (tallyOf f) top bits (g .config) (tallyOf g) top2 bits2 (length to) (length toBits) (a .0) in
         subst
         (λ (x : Sizes). Room (x .top) (x .blocks) to toBits
-        × ((isFilter (x .top) (x .blocks) top bits (f .count) (f .boundary) ≡ true) × (isFilter (x .top) (x .blocks) top2 bits2 (g .count) (g .boundary) ≡ true)))
+        × ((isFilter (x .top) (x .blocks) top bits (f .count) (f .boundary) ≡ true)
+        × (isFilter (x .top) (x .blocks) top2 bits2 (g .count) (g .boundary) ≡ true)))
         (sym (a .1))
         (room-of (f .config) to toBits (p .1), (p .2 .sound, p .3 .sound))
 

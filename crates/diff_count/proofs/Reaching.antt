@@ -41,7 +41,9 @@ module _ {list : List ℕ} {n least most i : ℕ} (t : Reaching list n least mos
       record {
         low = t .low;
         covers = λ j a. rw (getD-take n list j 0 (omega (arith, length-take n list))) (t .covers j (omega (arith, length-take n list)));
-        high = λ k a b. t .high k a (λ j s. rw (getD-take n list j 0 (omega (arith, t .few))) at (b j (omega (arith, length-take-le n list l, t .few))));
+        high =
+            λ k a b. t .high k a (λ j s. rw (getD-take n list j 0 (omega (arith, t .few))) at (b j
+            (omega (arith, length-take-le n list l, t .few))));
       }
 
 -- ---- a list in which none is above the first
@@ -52,7 +54,8 @@ module _ (list : List ℕ) (n least : ℕ) (l : n ≤ length list) where
 
   pub up-to-first : {r : ℕ} → (n ≡ 0 → ⊥) → Led (take n list) → UpTo (take 1 list) least r → UpTo (take n list) least r
   up-to-first {r} z L u =
-      let e : getD (take n list) 0 0 ≡ getD (take 1 list) 0 0 = getD-take n list 0 0 (omega arith) ∙ sym (getD-take 1 list 0 0 (omega arith)) in
+      let e : getD (take n list) 0 0 ≡ getD (take 1 list) 0 0 =
+      getD-take n list 0 0 (omega arith) ∙ sym (getD-take 1 list 0 0 (omega arith)) in
       record {
         low = u .low;
         covers = λ i h. omega (arith, L i h, u .covers 0 (omega (arith, length-take 1 list)));

@@ -23,14 +23,17 @@ use Rattle.diff_count.specs.declared.Made.the-variants.{Ready}
 
 -- ---- two outcomes that a promise allows coincide
 
-pub makes-once : {v : Verdict} {c : Config} {S : Set} {top bits : List ℕ} {r r′ : Made} {t t′ b b′ : List ℕ} → Makes v c S top bits r t b → Makes v c S top bits r′ t′ b′
+pub makes-once : {v : Verdict} {c : Config} {S : Set} {top bits : List ℕ} {r r′ : Made} {t t′ b b′ : List ℕ}
+    → Makes v c S top bits r t b → Makes v c S top bits r′ t′ b′
     → (r ≡ r′) × (t ≡ t′) × (b ≡ b′)
 makes-once x y = (x .answers ∙ sym (y .answers), x .tops ∙ sym (y .tops), x .blocks ∙ sym (y .blocks))
 
-pub empty-once : (n : ℕ) (top bits : List ℕ) {r r′ : Made} {t t′ b b′ : List ℕ} → Empties n top bits r t b → Empties n top bits r′ t′ b′ → (r ≡ r′) × (t ≡ t′) × (b ≡ b′)
+pub empty-once : (n : ℕ) (top bits : List ℕ) {r r′ : Made} {t t′ b b′ : List ℕ} → Empties n top bits r t b
+    → Empties n top bits r′ t′ b′ → (r ≡ r′) × (t ≡ t′) × (b ≡ b′)
 empty-once n top bits x y = makes-once x y
 
-pub toggle-once : (f : Filter) (top bits list : List ℕ) {r r′ : Made} {t t′ b b′ : List ℕ} → Toggles f top bits list r t b → Toggles f top bits list r′ t′ b′
+pub toggle-once : (f : Filter) (top bits list : List ℕ) {r r′ : Made} {t t′ b b′ : List ℕ} → Toggles f top bits list r t b
+    → Toggles f top bits list r′ t′ b′
     → (r ≡ r′) × (t ≡ t′) × (b ≡ b′)
 toggle-once f top bits list x y = makes-once x y
 
@@ -68,7 +71,9 @@ module _ (n : ℕ) (k : known n ≡ true) where
 
   is-stored : (S : Set) → filterIn (recordOf (configAt n) S) ≡ stored S
   unfolding recordOf
-  is-stored S = ap (λ (i : ℕ). filterIn (record { config = i; count = recordOf (configAt n) S .count; boundary = recordOf (configAt n) S .boundary })) (number-at n k)
+  is-stored S =
+      ap (λ (i : ℕ). filterIn
+      (record { config = i; count = recordOf (configAt n) S .count; boundary = recordOf (configAt n) S .boundary })) (number-at n k)
 
   module _ (S : Set) (t₀ b₀ : List ℕ) where
     stands : Stands (configAt n) (recordIn (stored S)) (topSlice (configAt n) S t₀) (bitSlice (configAt n) S b₀) S
@@ -77,7 +82,8 @@ module _ (n : ℕ) (k : known n ≡ true) where
         (stands-slices (configAt n) (line-at n .sound) S t₀ b₀)
 
     shows : Agree (W (configAt n)) (shownBy (stored S) (topSlice (configAt n) S t₀) (bitSlice (configAt n) S b₀)) S
-    shows = shown-back (configAt n) (line-at n .sound) (recordIn (stored S)) (topSlice (configAt n) S t₀) (bitSlice (configAt n) S b₀) S stands
+    shows =
+        shown-back (configAt n) (line-at n .sound) (recordIn (stored S)) (topSlice (configAt n) S t₀) (bitSlice (configAt n) S b₀) S stands
 
   pub empty-step : (t₀ b₀ : List ℕ) {r : Made} {t b : List ℕ} → Lent n t₀ b₀ → Empties n t₀ b₀ r t b → InPlace n none t₀ b₀ r t b
   unfolding emptyVerdict
@@ -96,7 +102,8 @@ module _ (n : ℕ) (k : known n ≡ true) where
     toggle-passes : (list : List ℕ) → allBelow (W (configAt n)) list ≡ true → toggleVerdict (stored S) T B list ≡ taken
     unfolding toggleVerdict
     toggle-passes list w =
-        after-taken (filterLent (recordIn (stored S)) T B) (areBuckets (configAt n) list ∷ []) (lent-taken (stands-pass {n = n} k (stands S t₀ b₀))) ∙ rw w
+        after-taken (filterLent (recordIn (stored S)) T B) (areBuckets (configAt n) list ∷ [])
+        (lent-taken (stands-pass {n = n} k (stands S t₀ b₀))) ∙ rw w
 
     -- toggling the filter of S gives that of the set toggled
     pub toggle-step : (list : List ℕ) {f : Filter} {t b : List ℕ} {r : Made} {t′ b′ : List ℕ} → allBelow (W (configAt n)) list ≡ true
@@ -105,7 +112,8 @@ module _ (n : ℕ) (k : known n ≡ true) where
         let e : f ≡ filterIn (recordOf (configAt n) S) = cc (P .answers) in
         let R : Set = flips list (shownBy (stored S) T B) in
         let N : Toggles (stored S) T B list r t′ b′ =
-        subst (λ (g : Filter). Toggles g T B list r t′ b′) (e ∙ is-stored S) (subst₂ (λ (x y : List ℕ). Toggles f x y list r t′ b′) (P .tops) (P .blocks) M) in
+        subst (λ (g : Filter). Toggles g T B list r t′ b′) (e ∙ is-stored S)
+        (subst₂ (λ (x y : List ℕ). Toggles f x y list r t′ b′) (P .tops) (P .blocks) M) in
         settled (toggleVerdict (stored S) T B list) R (flips list S) T B t₀ b₀ (toggle-passes list h)
         (λ p l. flips-agree list (shownBy (stored S) T B) S p (shows S t₀ b₀ p l))
         (top-again (configAt n) (line-at n .sound) S R t₀) (bits-again (configAt n) (line-at n .sound) S R b₀) N
@@ -119,11 +127,14 @@ module _ (n : ℕ) (k : known n ≡ true) where
 
       difference-passes : (to toBits : List ℕ) → Lent n to toBits → differenceVerdict (stored S) T B (stored Q) T₂ B₂ to toBits ≡ taken
       unfolding differenceVerdict
-      difference-passes to toBits L = all-taken (stands-pass {n = n} k (stands S t₀ b₀)) (stands-pass {n = n} k (stands Q t₁ b₁)) (length to) (length toBits) (L .tops) (L .blocks)
+      difference-passes to toBits L =
+          all-taken (stands-pass {n = n} k (stands S t₀ b₀)) (stands-pass {n = n} k (stands Q t₁ b₁)) (length to) (length toBits)
+          (L .tops) (L .blocks)
 
       -- of the filters of S and Q it is that of their symmetric difference
       pub difference-step : (to toBits : List ℕ) {f g : Filter} {t b t₂ b₂ : List ℕ} {r : Made} {t′ b′ : List ℕ} → Lent n to toBits
-          → InPlace n S t₀ b₀ (Ready f) t b → InPlace n Q t₁ b₁ (Ready g) t₂ b₂ → Differs f t b g t₂ b₂ to toBits r t′ b′ → InPlace n (apart S Q) to toBits r t′ b′
+          → InPlace n S t₀ b₀ (Ready f) t b → InPlace n Q t₁ b₁ (Ready g) t₂ b₂ → Differs f t b g t₂ b₂ to toBits r t′ b′
+          → InPlace n (apart S Q) to toBits r t′ b′
       difference-step to toBits {f} {g} {t} {b} {t₂} {b₂} {r} {t′} {b′} L P P₂ M =
           let e : f ≡ filterIn (recordOf (configAt n) S) = cc (P .answers) in
           let e₂ : g ≡ filterIn (recordOf (configAt n) Q) = cc (P₂ .answers) in
@@ -133,5 +144,6 @@ module _ (n : ℕ) (k : known n ≡ true) where
           let N : Differs (stored S) T B (stored Q) T₂ B₂ to toBits r t′ b′ =
           subst₂ (λ (x y : Filter). Differs x T B y T₂ B₂ to toBits r t′ b′) (e ∙ is-stored S) (e₂ ∙ is-stored Q) N₁ in
           let R : Set = apart (shownBy (stored S) T B) (shownBy (stored Q) T₂ B₂) in
-          settled (differenceVerdict (stored S) T B (stored Q) T₂ B₂ to toBits) R (apart S Q) to toBits to toBits (difference-passes to toBits L)
+          settled (differenceVerdict (stored S) T B (stored Q) T₂ B₂ to toBits) R (apart S Q) to toBits to toBits
+          (difference-passes to toBits L)
           (λ p l. ap₂ differ (shows S t₀ b₀ p l) (shows Q t₁ b₁ p l)) refl refl N

@@ -92,11 +92,13 @@ pub record One (f : Filter) (top bits : List ℕ) (s : Sizes) : Type 0 where
   pub fits : Fits (s .top) (s .blocks) top bits (f .count) (f .boundary)
 
 -- or a refusal
-pub one-not : (f : Filter) (top bits : List ℕ) (x : Refusal) {r : SizesAnswer} → r ≡ filterOf (f .config) (tallyOf f) top bits → r ≡ sizes.Refused x
+pub one-not : (f : Filter) (top bits : List ℕ) (x : Refusal) {r : SizesAnswer} → r ≡ filterOf (f .config) (tallyOf f) top bits
+    → r ≡ sizes.Refused x
     → (k : ℕ) × (verdict (filterLent (recordIn f) top bits) ≡ refused k) × (x ≡ refusal k)
 one-not f top bits x e q = filter-refused (f .config) (tallyOf f) top bits x (sym e ∙ q)
 
-fits-at : (n : ℕ) (t : Tally) (top bits : List ℕ) (s : Sizes) → s ≡ sizesAt n → Passes n t top bits → Fits (s .top) (s .blocks) top bits (t .count) (t .boundary)
+fits-at : (n : ℕ) (t : Tally) (top bits : List ℕ) (s : Sizes) → s ≡ sizesAt n → Passes n t top bits
+    → Fits (s .top) (s .blocks) top bits (t .count) (t .boundary)
 fits-at n t top bits s e P =
     subst (λ (x : Sizes). Fits (x .top) (x .blocks) top bits (t .count) (t .boundary)) (sym e) (fits (P .room) (P .sound))
 
@@ -120,9 +122,11 @@ pub record Two (f : Filter) (top bits : List ℕ) (g : Filter) (top2 bits2 : Lis
 
 -- the answer of `judge::two_filters` where the third's lengths are the first's
 pub two-lent : (f : Filter) (top bits : List ℕ) (g : Filter) (top2 bits2 : List ℕ) {r : SizesAnswer}
-    → r ≡ twoOf (f .config) (tallyOf f) top bits (g .config) (tallyOf g) top2 bits2 (length top) (length bits) → r ≡ filtersOf f top bits g top2 bits2
+    → r ≡ twoOf (f .config) (tallyOf f) top bits (g .config) (tallyOf g) top2 bits2 (length top) (length bits) → r
+    ≡ filtersOf f top bits g top2 bits2
 unfolding twoOf filtersOf
-two-lent f top bits g top2 bits2 e = e ∙ ap (judged (f .config)) (two-alone (f .config) (tallyOf f) top bits (g .config) (tallyOf g) top2 bits2)
+two-lent f top bits g top2 bits2 e =
+    e ∙ ap (judged (f .config)) (two-alone (f .config) (tallyOf f) top bits (g .config) (tallyOf g) top2 bits2)
 
 module _ (f : Filter) (top bits : List ℕ) (g : Filter) (top2 bits2 : List ℕ) where
   pub two-not : (x : Refusal) {r : SizesAnswer} → r ≡ filtersOf f top bits g top2 bits2 → r ≡ sizes.Refused x

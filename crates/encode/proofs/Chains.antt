@@ -19,7 +19,8 @@ module _ {m : ℕ} {a out : List ℕ} {at : ℕ} {out₁ : List ℕ} {r₁ : ℕ
   pub puts-more : {n : ℕ} → m ≤ n → Puts m a out at out₁ r₁ → Puts n a out at out₁ r₁
   puts-more h p = record { text = p .text; end = p .end; near = omega arith }
 
-  pub puts-then : {k : ℕ} {b out₂ : List ℕ} {r₂ : ℕ} → Puts m a out at out₁ r₁ → Puts k b out₁ r₁ out₂ r₂ → Puts (m + k) (a ++ b) out at out₂ r₂
+  pub puts-then : {k : ℕ} {b out₂ : List ℕ} {r₂ : ℕ} → Puts m a out at out₁ r₁ → Puts k b out₁ r₁ out₂ r₂
+      → Puts (m + k) (a ++ b) out at out₂ r₂
   puts-then {k} {b} p q =
       record {
         text = q .text

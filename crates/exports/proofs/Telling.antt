@@ -33,7 +33,8 @@ unfolding greaterOf cmpRowsOf greaterTold
 named n mask size first second = go (rowsVerdict n mask size (first .now) (second .now)) (rowsOrder n mask size (first .now) (second .now))
   where
     go : (v : Verdict) (o : Ordering)
-        → answer v (λ r. (first .ptr, [])) (cond (firstWins o) (seen first) (seen second)) ≡ rowNamed (greaterTold (orderAnswer v o)) first second
+        → answer v (λ r. (first .ptr, [])) (cond (firstWins o) (seen first) (seen second))
+        ≡ rowNamed (greaterTold (orderAnswer v o)) first second
     go taken less = refl
     go taken equal = refl
     go taken greater = refl
@@ -41,7 +42,8 @@ named n mask size first second = go (rowsVerdict n mask size (first .now) (secon
 
 -- ---- the same promise, of a record that is read from its cells
 
-pub toggles-as : {f g : Filter} (top bits list : List ℕ) {a : Made} {top′ bits′ : List ℕ} → f ≡ g → Toggles f top bits list a top′ bits′ → Toggles g top bits list a top′ bits′
+pub toggles-as : {f g : Filter} (top bits list : List ℕ) {a : Made} {top′ bits′ : List ℕ} → f ≡ g
+    → Toggles f top bits list a top′ bits′ → Toggles g top bits list a top′ bits′
 toggles-as top bits list {a} {top′} {bits′} q h = subst (λ (x : Filter). Toggles x top bits list a top′ bits′) q h
 
 pub differs-as : {f g f2 g2 : Filter} (top bits top2 bits2 to toBits : List ℕ) {a : Made} {to′ toBits′ : List ℕ} → f ≡ g → f2 ≡ g2
@@ -49,6 +51,8 @@ pub differs-as : {f g f2 g2 : Filter} (top bits top2 bits2 to toBits : List ℕ)
 differs-as top bits top2 bits2 to toBits {a} {to′} {toBits′} q q2 h =
     subst₂ (λ (x y : Filter). Differs x top bits y top2 bits2 to toBits a to′ toBits′) q q2 h
 
-pub finishes-as : {b d : Builder} (pending bits top blocks : List ℕ) {a : Made} {top′ blocks′ : List ℕ} → b ≡ d → Finishes b pending bits top blocks a top′ blocks′
+pub finishes-as : {b d : Builder} (pending bits top blocks : List ℕ) {a : Made} {top′ blocks′ : List ℕ} → b ≡ d
+    → Finishes b pending bits top blocks a top′ blocks′
     → Finishes d pending bits top blocks a top′ blocks′
-finishes-as pending bits top blocks {a} {top′} {blocks′} q h = subst (λ (x : Builder). Finishes x pending bits top blocks a top′ blocks′) q h
+finishes-as pending bits top blocks {a} {top′} {blocks′} q h =
+    subst (λ (x : Builder). Finishes x pending bits top blocks a top′ blocks′) q h

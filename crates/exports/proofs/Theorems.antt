@@ -1,4 +1,5 @@
--- Two outcomes of an exported call coincide, of a push their sets do; 0 is told exactly where a call was taken; and the reader from C is the
+-- Two outcomes of an exported call coincide, of a push their sets do; 0 is told exactly where a call was taken; and the reader
+-- from C is the
 -- row reader. Assumes nothing.
 use mathlib.Core.Path.{_≡_, refl, sym, ap, _∙_}
 use mathlib.Core.Bool.{Bool, true, false, cond}
@@ -8,7 +9,8 @@ use denote.Ref.{RefT, now}
 use native.Mathlib.Omega.{arith}
 use Rattle.sets.specs.Sets.{Set}
 use Rattle.sets.specs.Configurations.{Config}
-use Rattle.sets.specs.Refusals.{Reason, Test, Verdict, taken, refused, answer, number, firstFailing, inOrder, verdict, configuration, room, soundness, likeness, maskSize, maskBits, rowLength, range, fall, blockCount, spare, high, slot, buffer}
+use Rattle.sets.specs.Refusals.{Reason, Test, Verdict, taken, refused, answer, number, firstFailing, inOrder, verdict, configuration, room}
+use Rattle.sets.specs.Refusals.{soundness, likeness, maskSize, maskBits, rowLength, range, fall, blockCount, spare, high, slot, buffer}
 use Rattle.diff_count.specs.Making.{Makes}
 use Rattle.diff_count.specs.declared.Made.{Made}
 use Rattle.diff_count.proofs.Theorems.{makes-once}
@@ -41,7 +43,8 @@ steps-once a b = (a .tells .number ∙ sym (b .tells .number), a .tells .values 
 
 -- ---- a call that writes more: what it tells is fixed by the answer of the call that it wraps
 
-pub wraps-once : {A : Type 0} {told : A → Told} {P Q : A → Type 0} {cells : List ℕ} {r s : ℕ} {x y : List ℕ} (a : Wraps A told P cells r x) (b : Wraps A told Q cells s y)
+pub wraps-once : {A : Type 0} {told : A → Told} {P Q : A → Type 0} {cells : List ℕ} {r s : ℕ} {x y : List ℕ}
+    (a : Wraps A told P cells r x) (b : Wraps A told Q cells s y)
     → a .answer ≡ b .answer → (r ≡ s) × (x ≡ y)
 wraps-once {A} {told} {P} {Q} {cells} a b q =
     let e : told (a .answer) ≡ told (b .answer) = ap told q in (
@@ -56,12 +59,14 @@ pub made-once : {v : Verdict} {c : Config} {S : Set} {top bits cells : List ℕ}
 made-once p q = let e = makes-once (p .keeps) (q .keeps) in (wraps-once p q (e .0), e .1, e .2)
 
 pub builder-new-once : {n split : ℕ} {pending bits cells : List ℕ} {r s : ℕ} {x y p p′ b b′ : List ℕ}
-    → Wraps Built builtTold (λ a. News n split pending bits a p b) cells r x → Wraps Built builtTold (λ a. News n split pending bits a p′ b′) cells s y
+    → Wraps Built builtTold (λ a. News n split pending bits a p b) cells r x
+    → Wraps Built builtTold (λ a. News n split pending bits a p′ b′) cells s y
     → ((r ≡ s) × (x ≡ y)) × (p ≡ p′) × (b ≡ b′)
 builder-new-once u w = let e = new-once (u .keeps) (w .keeps) in (wraps-once u w (e .0), e .1, e .2)
 
 pub written-once : (f : Filter) (top bits to : List ℕ) {cells : List ℕ} {r s : ℕ} {x y b b′ : List ℕ}
-    → Wraps WriteAnswer writeTold (λ a. Writes f top bits to a b) cells r x → Wraps WriteAnswer writeTold (λ a. Writes f top bits to a b′) cells s y
+    → Wraps WriteAnswer writeTold (λ a. Writes f top bits to a b) cells r x
+    → Wraps WriteAnswer writeTold (λ a. Writes f top bits to a b′) cells s y
     → ((r ≡ s) × (x ≡ y)) × (b ≡ b′)
 written-once f top bits to u w = let e = write-once f top bits to (u .keeps) (w .keeps) in (wraps-once u w (e .0), e .1)
 
@@ -72,7 +77,8 @@ compared-once input out u w = let e = compares-once input out (u .keeps) (w .kee
 
 -- the number is fixed; areas and record are as far as 01 fixes a builder, and the cells hold the record
 pub pushed-once : (b : Builder) (pending bits list : List ℕ) {cells : List ℕ} {r s : ℕ} {x y : List ℕ} (p p′ q q′ : List ℕ)
-    → (u : Wraps Built builtTold (λ a. Pushes b pending bits list a p q) cells r x) (w : Wraps Built builtTold (λ a. Pushes b pending bits list a p′ q′) cells s y)
+    → (u : Wraps Built builtTold (λ a. Pushes b pending bits list a p q) cells r x)
+    (w : Wraps Built builtTold (λ a. Pushes b pending bits list a p′ q′) cells s y)
     → (r ≡ s)
     × (x ≡ cellsAfter (builtTold (u .answer)) cells)
     × (y ≡ cellsAfter (builtTold (w .answer)) cells)
@@ -107,7 +113,8 @@ numbered buffer = omega arith
 pub never-zero : (ts : List Test) (n : ℕ) → verdict ts ≡ refused n → 0 < n
 never-zero ts n q = go (inOrder 0 9 ts) q
   where
-    by : (t : Test) (rest : List Test) (b : Bool) → (firstFailing rest ≡ refused n → 0 < n) → cond b (firstFailing rest) (refused (number (t .0))) ≡ refused n → 0 < n
+    by : (t : Test) (rest : List Test) (b : Bool) → (firstFailing rest ≡ refused n → 0 < n)
+        → cond b (firstFailing rest) (refused (number (t .0))) ≡ refused n → 0 < n
     by t rest true h e = h e
     by t rest false h e = let z : number (t .0) ≡ n = cc in omega (arith, numbered (t .0))
 
@@ -134,7 +141,8 @@ pub new-reader : (row : RefT (List ℕ)) (n place : ℕ) {cells : List ℕ} {r :
 new-reader row n place h = h .values
 
 -- a step from a reader's cells tells what the reader's own step gives
-pub step-reader : (d : RowReader) {step : List ℕ} {r : ℕ} {reader′ step′ : List ℕ} → Steps (readerCells d) (now (d .row)) step r reader′ step′
+pub step-reader : (d : RowReader) {step : List ℕ} {r : ℕ} {reader′ step′ : List ℕ}
+    → Steps (readerCells d) (now (d .row)) step r reader′ step′
     → Tells (stepTold (stepOf d .answer)) step r step′
 step-reader d h = h .tells
 

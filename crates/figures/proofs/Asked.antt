@@ -56,7 +56,8 @@ module _ (mask size : ℕ) (m : verdict (isMask mask size) ≡ taken) where
       let key = key-passes mask size m f top bits p in
       λ i. record { ones = countIn (sym ones i); limited = limitedIn (sym limited i); key = keyIn (key i) }
 
-  pair-passes : (f : Filter) (top bits : List ℕ) (g : Filter) (top2 bits2 : List ℕ) → Passes (f .config) (tallyOf f) top bits → Passes (g .config) (tallyOf g) top2 bits2
+  pair-passes : (f : Filter) (top bits : List ℕ) (g : Filter) (top2 bits2 : List ℕ) → Passes (f .config) (tallyOf f) top bits
+      → Passes (g .config) (tallyOf g) top2 bits2
       → f .config ≡ g .config
       → pairFor f top bits g top2 bits2 mask size ≡ pairOf (configAt (f .config)) mask size (shownBy f top bits) (shownBy g top2 bits2)
   unfolding pairFor exactDifferenceOf limitedDifferenceOf
@@ -71,7 +72,8 @@ module _ (mask size : ℕ) (m : verdict (isMask mask size) ≡ taken) where
 
 -- ---- where the order would be answered
 
-module _ (f : Filter) (top bits : List ℕ) (g : Filter) (top2 bits2 : List ℕ) (mask size : ℕ) (v : cmpVerdict f top bits g top2 bits2 mask size ≡ taken) where
+module _ (f : Filter) (top bits : List ℕ) (g : Filter) (top2 bits2 : List ℕ) (mask size : ℕ)
+    (v : cmpVerdict f top bits g top2 bits2 mask size ≡ taken) where
   abbrev line : Config
   line = configAt (f .config)
 
@@ -82,7 +84,8 @@ module _ (f : Filter) (top bits : List ℕ) (g : Filter) (top2 bits2 : List ℕ)
   T = shownBy g top2 bits2
 
   -- the mask passes, and both filters, which are of one configuration
-  all-passed : (verdict (isMask mask size) ≡ taken) × Passes (f .config) (tallyOf f) top bits × Passes (g .config) (tallyOf g) top2 bits2 × (f .config ≡ g .config)
+  all-passed : (verdict (isMask mask size) ≡ taken) × Passes (f .config) (tallyOf f) top bits
+      × Passes (g .config) (tallyOf g) top2 bits2 × (f .config ≡ g .config)
   unfolding cmpVerdict
   all-passed =
       let p = all-pass (inOrder 0 9 (filtersLent (recordIn f) top bits (recordIn g) top2 bits2)) (isMask mask size) v in
@@ -103,14 +106,18 @@ module _ (f : Filter) (top bits : List ℕ) (g : Filter) (top2 bits2 : List ℕ)
   between-is = pair-passes mask size (all-passed .0) f top bits g top2 bits2 (all-passed .1) (all-passed .2) (all-passed .3)
 
   module _ (a b : Single) (d : Pair)
-      (x : a ≡ singleFor f top bits mask size) (y : b ≡ singleFor g top2 bits2 mask size) (z : d ≡ pairFor f top bits g top2 bits2 mask size) where
+      (x : a ≡ singleFor f top bits mask size) (y : b ≡ singleFor g top2 bits2 mask size)
+      (z : d ≡ pairFor f top bits g top2 bits2 mask size) where
     pub counts-fit : (a .ones ≤ 2 ^ 32) × (b .ones ≤ 2 ^ 32) × (d .difference ≤ a .ones + b .ones)
     counts-fit =
         let i : a .ones ≡ exactCountAt line S = ap (λ (s : Single). s .ones) (x ∙ first-is) in
         let j : b .ones ≡ exactCountAt line T = ap (λ (s : Single). s .ones) (y ∙ second-is) in
         let k : d .difference ≡ exactCountAt line (apart S T) = ap (λ (s : Pair). s .difference) (z ∙ between-is) in
-        let w = line-at (f .config) .small in
-        (omega (arith, i, w, members-length S (W line)), omega (arith, j, w, members-length T (W line)), omega (arith, i, j, k, apart-length S T (W line)))
+        let w = line-at (f .config) .small in (
+          omega (arith, i, w, members-length S (W line)),
+          omega (arith, j, w, members-length T (W line)),
+          omega (arith, i, j, k, apart-length S T (W line)),
+        )
 
     pub figures-are : (o : ℕ) → o ≡ overlap (a .ones) (b .ones) (d .difference)
         → record { config = f .config; first = a; second = b; between = d; overlap = o } ≡ figuresOf line mask size S T

@@ -9,7 +9,8 @@ use lib.ListN.{length}
 use borrow.Author.Tests.{le-leb, leb-true}
 use Rattle.sets.specs.Configurations.{W, blocks, known, configAt}
 use Rattle.sets.specs.Filter.{isBuilder}
-use Rattle.sets.specs.Refusals.{Test, Verdict, taken, refused, firstFailing, verdict, answer, areasLent, builderAreas, builderLent, areBuilder, holdsArea, holdAreas}
+use Rattle.sets.specs.Refusals.{Test, Verdict, taken, refused, firstFailing, verdict, answer, areasLent, builderAreas, builderLent}
+use Rattle.sets.specs.Refusals.{areBuilder, holdsArea, holdAreas}
 use Rattle.sets.proofs.Configurations.{line-at, whole-blocks}
 use Rattle.sets.proofs.Tests.{both-true, and-left, and-right}
 use Rattle.sets.proofs.Verdicts.{after-taken, after-refused, all-pass, passed}
@@ -39,7 +40,8 @@ module _ (n x y : ℕ) where
   pub areas-half : filters.areasOf n (x / 2) y ≡ areasOf n x y
   unfolding filters.areasOf areasOf
   areas-half =
-      ap (λ (b : Bool). filters.judged n (cond (known n) (cond b (cond (leb (blocks (configAt n)) y) taken (refused 3)) (refused 3)) (refused 1)))
+      ap (λ (b : Bool). filters.judged n
+      (cond (known n) (cond b (cond (leb (blocks (configAt n)) y) taken (refused 3)) (refused 3)) (refused 1)))
       (half (configAt n .M) x)
 
   -- what the answer tells: the tests pass, and these are the sizes
@@ -71,7 +73,8 @@ room-of n pending bits v =
       small = omega (arith, line-at n .small, whole-blocks (configAt n) s);
     }
 
-pub areas-room : (n : ℕ) (pending bits : List ℕ) (s : Sizes) → areasOf n (length pending) (length bits) ≡ Known s → Room (2 * s .top) (s .blocks) pending bits
+pub areas-room : (n : ℕ) (pending bits : List ℕ) (s : Sizes) → areasOf n (length pending) (length bits) ≡ Known s
+    → Room (2 * s .top) (s .blocks) pending bits
 areas-room n pending bits s q =
     let a = areas-told n (length pending) (length bits) s q in
     subst (λ (x : Sizes). Room (2 * x .top) (x .blocks) pending bits) (sym (a .1)) (room-of n pending bits (a .0))
@@ -99,7 +102,11 @@ module _ (n : ℕ) (st : Stage) (pending bits : List ℕ) where
   unfolding builderOf
   builder-no-areas r q =
       let a = areas-refused n (length pending) (length bits) r q in
-      refuses (λ x. Refused x) (Known (sizesAt n)) (a .0, after-refused (builderAreas n (length pending) (length bits)) (soundTest ∷ []) (a .1), a .2)
+      refuses (λ x. Refused x) (Known (sizesAt n)) (
+        a .0,
+        after-refused (builderAreas n (length pending) (length bits)) (soundTest ∷ []) (a .1),
+        a .2,
+      )
 
   -- after 1 and 3: what test 8 told, of the sizes that were answered
   pub builder-rest : (s : Sizes) → areasOf n (length pending) (length bits) ≡ Known s
@@ -108,14 +115,16 @@ module _ (n : ℕ) (st : Stage) (pending bits : List ℕ) where
   unfolding builderOf
   builder-rest s q b h =
       let a = areas-told n (length pending) (length bits) s q in
-      let e : b ≡ sound = h ∙ ap (λ (x : Sizes). isBuilder (x .top) (64 * x .blocks) pending bits (st .count) (st .split)) (a .1) ∙ by-sizes in
+      let e : b ≡ sound =
+      h ∙ ap (λ (x : Sizes). isBuilder (x .top) (64 * x .blocks) pending bits (st .count) (st .split)) (a .1) ∙ by-sizes in
       let v : cond b taken (refused 8) ≡ verdict (builderLent (recordAt n st) pending bits) =
       ap (λ (x : Bool). cond x taken (refused 8)) e
       ∙ sym (after-taken (builderAreas n (length pending) (length bits)) (soundTest ∷ []) (a .0)) in
       ap₂ (λ (k : Sizes) (w : Verdict). answer w (λ i. Refused (refusal i)) (Known k)) (a .1) v
 
   -- what the answer tells
-  pub builder-told : (s : Sizes) → builderOf n st pending bits ≡ Known s → (verdict (builderLent (recordAt n st) pending bits) ≡ taken) × (s ≡ sizesAt n)
+  pub builder-told : (s : Sizes) → builderOf n st pending bits ≡ Known s
+      → (verdict (builderLent (recordAt n st) pending bits) ≡ taken) × (s ≡ sizesAt n)
   unfolding builderOf
   builder-told s q = judged-known n (verdict (builderLent (recordAt n st) pending bits)) s q
 
@@ -161,7 +170,8 @@ module _ (n : ℕ) (st : Stage) (pending bits : List ℕ) (top blk : ℕ) where
   filter-first : lent ≡ firstFailing (areasLent n top blk ++ rest)
   filter-first =
       ap (λ (v : Verdict). cond (known n) v (refused 1))
-      (swap (leb (2 * configAt n .M) (length pending)) (leb (blocks (configAt n)) (length bits)) (leb (configAt n .M) top) (leb (blocks (configAt n)) blk)
+      (swap (leb (2 * configAt n .M) (length pending)) (leb (blocks (configAt n)) (length bits)) (leb (configAt n .M) top)
+      (leb (blocks (configAt n)) blk)
       (cond (isBuilder (configAt n .M) (W (configAt n)) pending bits (st .count) (st .split)) taken (refused 8)))
 
   after-known : known n ≡ true → verdict (builderLent (recordAt n st) pending bits) ≡ firstFailing rest

@@ -26,7 +26,8 @@ module _ (w count : ℕ) (row : List ℕ) (i : ℕ) where
         ∙ ap₂ (λ (y z : ℕ). y ∷ drop z l) (sym (entry-at w h row x e)) (sym (add-one i))
 
     -- what the entries from i on tell, where this one has to be below the bound
-    module _ {told : Bool} (bound : ℕ) (f g : List ℕ → Bool) (s : (l : List ℕ) → f (x ∷ l) ≡ (ltb x bound && g l)) (t : told ≡ f (drop i (numbers w count row))) where
+    module _ {told : Bool} (bound : ℕ) (f g : List ℕ → Bool) (s : (l : List ℕ) → f (x ∷ l) ≡ (ltb x bound && g l))
+        (t : told ≡ f (drop i (numbers w count row))) where
       tells : {b : Bool} → ltb x bound ≡ b → told ≡ (b && g (drop (i + 1) (numbers w count row)))
       tells q = t ∙ ap f seen ∙ s _ ∙ ap (λ (b : Bool). b && g (drop (i + 1) (numbers w count row))) q
 

@@ -63,7 +63,8 @@ rising-below width at before n [] a h = refl
 rising-below width at before n (x ∷ xs) a h = go (rising-below width (at + width) x n xs) (ltb x before) refl h
   where
     go : (x ≤ n → true ≡ sound (rising width (at + width) x xs) → allBelow n xs ≡ true)
-        → (b : Bool) → ltb x before ≡ b → true ≡ sound (cond b (rising width (at + width) x xs) (place at)) → (ltb x n && allBelow n xs) ≡ true
+        → (b : Bool) → ltb x before ≡ b → true
+        ≡ sound (cond b (rising width (at + width) x xs) (place at)) → (ltb x n && allBelow n xs) ≡ true
     go f true e g =
         let l : x < before = ltb-true x before e in
         and-intro (ltb x n) (allBelow n xs) (lt-ltb x n (omega arith)) (f (omega arith) g)
@@ -109,7 +110,8 @@ tests-at n bs =
     let at : topBytes c + 1 - 1 ≡ topBytes c = omega arith in
     ap₂ (λ (x y : Bool). sound (fallFault c bs) && (x && (y && sound (highFault c bs))))
     (sym (sound-cond (eqb (rowBlockCount c bs) (blocksFor edge)) (topBytes c)))
-    (ap (λ (x : ℕ). eqb edge 0 || eqb (getD bs x 0) (spareByte edge)) at ∙ sym (sound-cond (eqb edge 0 || eqb (getD bs (topBytes c) 0) (spareByte edge)) (topBytes c)))
+    (ap (λ (x : ℕ). eqb edge 0 || eqb (getD bs x 0) (spareByte edge)) at
+    ∙ sym (sound-cond (eqb edge 0 || eqb (getD bs (topBytes c) 0) (spareByte edge)) (topBytes c)))
 
 -- what each of them told
 module _ (n : ℕ) {s : Sizes} {l : Layout} (bs : List ℕ) (e : s ≡ sizesAt n) (m : l ≡ layoutOf (configAt n) bs) where

@@ -68,7 +68,8 @@ module _ (blocks : List ℕ) (edge i j : ℕ) (e : edge ≡ 64 * i + j + 1) wher
       go q a (yes l) = sym (held-block blocks i q l) ∙ h (64 * i + q) (omega arith) (omega arith)
       go q a (no l) = digit-past (getD blocks i 0) q (lt-of-lt-of-le fit (pow-mono {i = 64} {j = q} (omega arith)))
 
-pub high-tells : (row : List ℕ) (at n edge w : ℕ) → n ≡ blocksFor edge → (edge ≡ 0 → ⊥) → w < 2 ^ 64 → w ≡ little (take 8 (drop (at + 8 * (n - 1)) row))
+pub high-tells : (row : List ℕ) (at n edge w : ℕ) → n ≡ blocksFor edge → (edge ≡ 0 → ⊥) → w < 2 ^ 64
+    → w ≡ little (take 8 (drop (at + 8 * (n - 1)) row))
     → ltb (w / 2 ^ ((edge - 1) % 64)) 2 ≡ sound (lowest at (members (onward edge (held (numbers 8 n (drop at row)))) (64 * n)))
 high-tells row at n edge w k some fit r =
     let l : List ℕ = numbers 8 n (drop at row) in
@@ -84,4 +85,5 @@ high-tells row at n edge w k some fit r =
     (λ h.
     lt-ltb (w / 2 ^ j) 2
     (subst (λ (x : ℕ). x / 2 ^ j < 2) (sym g)
-    (clear-low l edge i j e (subst (λ (x : ℕ). x < 2 ^ 64) g fit) (subst (Empty (held l) edge) (sym d) (sound-clear at edge n (held l) h)))))
+    (clear-low l edge i j e (subst (λ (x : ℕ). x < 2 ^ 64) g fit)
+    (subst (Empty (held l) edge) (sym d) (sound-clear at edge n (held l) h)))))

@@ -47,14 +47,19 @@ module _ (row : List ℕ) (s : Sizes) (n : ℕ) (e : s ≡ sizesAt n) where
     only-entries l =
         let whole : Bool = eqb (length row % s .entry) 0 in
         tells
-        (rw (le-leb (length row) (s .longest) h, le-leb (length row) (s .top * s .entry) l, lt-leb (s .top * s .entry + 9) (length row) (omega arith))
+        (rw (
+          le-leb (length row) (s .longest) h,
+          le-leb (length row) (s .top * s .entry) l,
+          lt-leb (s .top * s .entry + 9) (length row) (omega arith),
+        )
         (or-false (whole && true) ∙ and-true whole))
 
     module _ (l : s .top * s .entry < length row) where
       past : fits s row ≡ (leb (s .top * s .entry + 9) (length row) && eqb ((length row - (s .top * s .entry + 1)) % 8) 0)
       past = rw (le-leb (length row) (s .longest) h, lt-leb (length row) (s .top * s .entry) l, and-false (eqb (length row % s .entry) 0))
 
-      pub with-blocks : s .top * s .entry + 9 ≤ length row → eqb ((length row - (s .top * s .entry + 1)) % 8) 0 ≡ lengthFits (configAt n) row
+      pub with-blocks : s .top * s .entry + 9 ≤ length row
+          → eqb ((length row - (s .top * s .entry + 1)) % 8) 0 ≡ lengthFits (configAt n) row
       with-blocks g = tells (past ∙ rw (le-leb (s .top * s .entry + 9) (length row) g))
 
       pub too-short : length row < s .top * s .entry + 9 → leb (s .top * s .entry + 9) (length row) ≡ lengthFits (configAt n) row
@@ -73,7 +78,8 @@ layoutAt s row =
       n = (length row - (s .top * s .entry + 1)) / 8;
     }
 
-pub layout-is : (row : List ℕ) (s : Sizes) (count k : ℕ) → count ≡ min (s .top) (length row / s .entry) → k ≡ (length row - (s .top * s .entry + 1)) / 8
+pub layout-is : (row : List ℕ) (s : Sizes) (count k : ℕ) → count ≡ min (s .top) (length row / s .entry)
+    → k ≡ (length row - (s .top * s .entry + 1)) / 8
     → (n : ℕ) → s ≡ sizesAt n
     → record { width = s .entry; count = count; at = s .top * s .entry + 1; first = 0; n = k } ≡ layoutOf (configAt n) row
 unfolding sizesAt

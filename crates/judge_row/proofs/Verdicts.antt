@@ -89,7 +89,8 @@ module _ (n : ℕ) (bs : List ℕ) where
         → answerOf (chain true b d h) s l ≡ rowOf n bs
     after-1 m b d h = row-is here m true b d h (sizes-are n f q .0)
 
-    pub row-misfit : {b : Bool} → ((i : ℕ) → s ≡ sizesAt i → b ≡ lengthFits (configAt i) bs) → not b ≡ true → Refused (refusal 4) ≡ rowOf n bs
+    pub row-misfit : {b : Bool} → ((i : ℕ) → s ≡ sizesAt i → b ≡ lengthFits (configAt i) bs) → not b ≡ true
+        → Refused (refusal 4) ≡ rowOf n bs
     row-misfit {b} hb tb = after-1 refl false _ _ (sym (hb n here) ∙ not-true b tb) refl refl
 
     module _ {l : Layout} (hl : (i : ℕ) → s ≡ sizesAt i → l ≡ layoutOf (configAt i) bs) where
@@ -102,12 +103,14 @@ module _ (n : ℕ) (bs : List ℕ) where
 
       module _ {b : Bool} (hb : (i : ℕ) → s ≡ sizesAt i → b ≡ lengthFits (configAt i) bs) (tb : not b ≡ false) where
         -- after 4
-        after-4 : (d h : Bool) → entriesFit (configAt n) bs ≡ d → faultless (configAt n) bs ≡ h → answerOf (chain true true d h) s l ≡ rowOf n bs
+        after-4 : (d h : Bool) → entriesFit (configAt n) bs ≡ d → faultless (configAt n) bs ≡ h
+            → answerOf (chain true true d h) s l ≡ rowOf n bs
         after-4 d h = after-1 (hl n here) true d h (sym (hb n here) ∙ not-false b tb)
 
         module _ {d : Bool} (hd : d ≡ entriesFall s l bs) where
           -- refused by 2 or else by 5
-          pub row-unfallen : not d ≡ true → {x : Refusal} → x ≡ refusal (cond (allBelow (s .buckets) (entries l bs)) 5 2) → Refused x ≡ rowOf n bs
+          pub row-unfallen : not d ≡ true → {x : Refusal} → x ≡ refusal (cond (allBelow (s .buckets) (entries l bs)) 5 2)
+              → Refused x ≡ rowOf n bs
           row-unfallen td q =
               let fits : Bool = allBelow (s .buckets) (entries l bs) in
               ap (λ (x : Refusal). Refused x) q
@@ -123,7 +126,8 @@ module _ (n : ℕ) (bs : List ℕ) where
             after-2 : (k : Bool) → h ≡ k → answerOf (chain true true true k) s l ≡ rowOf n bs
             after-2 k e =
                 let w : ℕ = s .buckets in
-                after-4 true k (entries-are ∙ rising-below (l .width) 0 w w (entries l bs) (omega arith) (sym (not-false d td) ∙ hd)) (sym (hh n here) ∙ e)
+                after-4 true k (entries-are
+                ∙ rising-below (l .width) 0 w w (entries l bs) (omega arith) (sym (not-false d td) ∙ hd)) (sym (hh n here) ∙ e)
 
             pub row-faulty : not h ≡ true → Refused (refusal 5) ≡ rowOf n bs
             row-faulty th = after-2 false (not-true h th)
@@ -153,7 +157,8 @@ module _ (n : ℕ) (bs : List ℕ) where
   unfolding rowOf
   row-told e q = told (sizesAt n) (layoutOf (configAt n) bs) (rowVerdict n bs) (sym e ∙ q)
 
-  pub row-refused : {j : RowAnswer} {x : Refusal} → j ≡ rowOf n bs → j ≡ Refused x → (k : ℕ) × (rowVerdict n bs ≡ refused k) × (x ≡ refusal k)
+  pub row-refused : {j : RowAnswer} {x : Refusal} → j ≡ rowOf n bs → j ≡ Refused x
+      → (k : ℕ) × (rowVerdict n bs ≡ refused k) × (x ≡ refusal k)
   unfolding rowOf
   row-refused e q = told-refused (sizesAt n) (layoutOf (configAt n) bs) (rowVerdict n bs) (sym e ∙ q)
 
@@ -198,7 +203,8 @@ module _ (n : ℕ) (bs : List ℕ) where
         let R : Set = held (rowBlocks c bs) in
         ap (λ (S : Set). members S (W c)) (shown-row c bs)
         ∙ joined-members (line-at n .sound .some) (entries-split c bs F) R
-        ∙ ap (_++_ (rowEntries c bs)) (sym (members-gap R (rowBoundary c bs) (64 * rowBlockCount c bs) (omega (arith, F .counted)) (F .clear)))
+        ∙ ap (_++_ (rowEntries c bs))
+        (sym (members-gap R (rowBoundary c bs) (64 * rowBlockCount c bs) (omega (arith, F .counted)) (F .clear)))
 
     -- its blocks stand in the row, and are counted
     row-room : (8 * layoutOf (configAt n) bs .n ≤ length bs - layoutOf (configAt n) bs .at) × (64 * layoutOf (configAt n) bs .n ≤ 2 ^ 32)
@@ -206,10 +212,17 @@ module _ (n : ℕ) (bs : List ℕ) where
         let c : Config = configAt n in
         let F : Faultless c bs = row-facts t .0 in (
           omega arith,
-          omega (arith, F .counted, falls-low (rowEntries c bs) (W c) (c .M - 1) (F .falling), whole-blocks c (line-at n .sound), line-at n .small),
+          omega (
+            arith,
+            F .counted,
+            falls-low (rowEntries c bs) (W c) (c .M - 1) (F .falling),
+            whole-blocks c (line-at n .sound),
+            line-at n .small,
+          ),
         )
 
-    row-total : layoutOf (configAt n) bs .count + length (members (held (blocks (layoutOf (configAt n) bs) bs)) (64 * layoutOf (configAt n) bs .n))
+    row-total : layoutOf (configAt n) bs .count + length
+        (members (held (blocks (layoutOf (configAt n) bs) bs)) (64 * layoutOf (configAt n) bs .n))
         ≡ exactCountAt (configAt n) (shownRow (configAt n) bs)
     unfolding rowEntries rowBlocks
     row-total =
@@ -242,7 +255,8 @@ module _ (n : ℕ) (bs : List ℕ) where
       pub fits-total : l .count + low ≡ exactCountAt (configAt n) (shownRow (configAt n) bs)
       fits-total =
           ap (_+_ (l .count)) h
-          ∙ fits-are (λ (x : Layout). x .count + length (members (held (blocks x bs)) (64 * x .n)) ≡ exactCountAt (configAt n) (shownRow (configAt n) bs))
+          ∙ fits-are (λ (x : Layout). x .count + length (members (held (blocks x bs)) (64 * x .n))
+          ≡ exactCountAt (configAt n) (shownRow (configAt n) bs))
           (row-total (row-told e q .0))
 
       pub fits-few : l .count + low ≤ 2 ^ 32

@@ -10,7 +10,9 @@ use lib.ListN.{length}
 use Rattle.sets.specs.Sets.{same}
 use Rattle.sets.specs.Configurations.{Config, configAt, known}
 use Rattle.sets.specs.Refusals.{Verdict, areasLent, isMask, isRowOf, refused, taken, verdict}
-use Rattle.sets.specs.Text.{Cut, Mask as Text·Mask, after, all, bareConfig, configLine, cut, cutAt, decimal, fromHex, is, isDigit, judgedMask, malformed, maskLine, numbered, orMalformed, refusedAt, rowLine, space, text, twoDecimals, unlessRefused, whole}
+use Rattle.sets.specs.Text.{Cut, Mask as Text·Mask, after, all, bareConfig, configLine, cut, cutAt, decimal, fromHex, is, isDigit}
+use Rattle.sets.specs.Text.{judgedMask, malformed, maskLine, numbered, orMalformed, refusedAt, rowLine, space, text, twoDecimals}
+use Rattle.sets.specs.Text.{unlessRefused, whole}
 use Rattle.lines.specs.Lines.{bytesIn, lineVerdict}
 
 is-same : {A : Type 0} {a b : A} → is a ≡ is b → a ≡ b
@@ -90,6 +92,7 @@ pub row-line : (c : Config) (l : ℕ) (bs : List ℕ) → rowLine c l bs ≡ unl
 unfolding rowLine
 row-line c l bs = go (fromHex bs)
   where
-    go : (o : Option (List ℕ)) → orMalformed o l (λ row. unlessRefused (verdict (isRowOf c row)) l row) ≡ unlessRefused (lineVerdict c o) l (bytesIn o)
+    go : (o : Option (List ℕ))
+        → orMalformed o l (λ row. unlessRefused (verdict (isRowOf c row)) l row) ≡ unlessRefused (lineVerdict c o) l (bytesIn o)
     go none = refl
     go (some row) = refl

@@ -14,7 +14,8 @@ use Rattle.sets.specs.Sets.{same}
 use Rattle.sets.specs.Configurations.{configAt}
 use Rattle.sets.specs.Refusals.{Verdict, areasLent, isRowOf, taken, verdict}
 use Rattle.sets.specs.Row.{shownRow}
-use Rattle.sets.specs.Text.{Judged, Mask as Text·Mask, after, all, bareConfig, configLine, cut, cutAt, decimal, fromHex, is, isDigit, judgedMask, maskLine, numbered, refusedAt, space, text, twoDecimals, unlessRefused}
+use Rattle.sets.specs.Text.{Judged, Mask as Text·Mask, after, all, bareConfig, configLine, cut, cutAt, decimal, fromHex, is, isDigit}
+use Rattle.sets.specs.Text.{judgedMask, maskLine, numbered, refusedAt, space, text, twoDecimals, unlessRefused}
 use Rattle.sets.proofs.Verdicts.{after-taken}
 use Rattle.sizes.specs.Sizes.{refusal}
 use Rattle.sizes.specs.declared.Refusal.{Refusal}
@@ -101,7 +102,8 @@ module _ (mask size : ℕ) {j : MaskAnswer} (f : j ≡ maskOf mask size) where
   pub mask-not : {x : Refusal} → j ≡ masks.Refused x → refusedAt (x .number) 2 ≡ judgedMask mask size
   mask-not {x} q =
       let r = mask-refused mask size x (sym f ∙ q) in
-      ap (λ (y : Refusal). refusedAt (y .number) 2) (r .2) ∙ ap (λ (v : Verdict). unlessRefused v 2 (record { mask = mask; size = size })) (sym (r .1))
+      ap (λ (y : Refusal). refusedAt (y .number) 2) (r .2)
+      ∙ ap (λ (v : Verdict). unlessRefused v 2 (record { mask = mask; size = size })) (sym (r .1))
 
 -- ---- two_decimals
 
@@ -132,16 +134,22 @@ module _ (s : List ℕ) {f : Found} (F : Finds space s f) where
       pub no-mask : d ≡ number.Malformed → refusedAt 11 2 ≡ twoDecimals (cutAt space s)
       no-mask q = rw (found-at .1, number-none (decimal (take i s)) (sym D ∙ q))
 
-      module _ {mask : ℕ} (q : d ≡ number.Is mask) {g : Number} (G : g ≡ numberIn (decimal (take (length s - (i + 1)) (drop (i + 1) s)))) where
+      module _ {mask : ℕ} (q : d ≡ number.Is mask) {g : Number}
+          (G : g ≡ numberIn (decimal (take (length s - (i + 1)) (drop (i + 1) s)))) where
         size-told : g ≡ numberIn (decimal (drop (suc i) s))
         size-told = G ∙ ap (λ (l : List ℕ). numberIn (decimal l)) (rest (i + 1) s ∙ ap (λ (k : ℕ). drop k s) (add-one i))
 
         pub no-size : g ≡ number.Malformed → refusedAt 11 2 ≡ twoDecimals (cutAt space s)
-        no-size p = rw (found-at .1, number-some (decimal (take i s)) mask (sym D ∙ q), number-none (decimal (drop (suc i) s)) (sym size-told ∙ p))
+        no-size p =
+            rw (found-at .1, number-some (decimal (take i s)) mask (sym D ∙ q), number-none (decimal (drop (suc i) s)) (sym size-told ∙ p))
 
         pub two-told : {size : ℕ} → g ≡ number.Is size → {x : Judged Text·Mask} → x ≡ judgedMask mask size → x ≡ twoDecimals (cutAt space s)
         two-told {size} p h =
-            rw (found-at .1, number-some (decimal (take i s)) mask (sym D ∙ q), number-some (decimal (drop (suc i) s)) size (sym size-told ∙ p)) h
+            rw (
+              found-at .1,
+              number-some (decimal (take i s)) mask (sym D ∙ q),
+              number-some (decimal (drop (suc i) s)) size (sym size-told ∙ p),
+            ) h
 
 -- ---- mask_line
 
@@ -169,7 +177,8 @@ module _ (s to : List ℕ) {h : Hex} (H : Hexed s h to) where
   module _ (n : ℕ) (top bits : List ℕ) where
     pub no-hex : h ≡ hex.Malformed → ReadsLine n s top bits (made.Refused (refusal 11)) top bits
     no-hex e =
-        makes-refused (lineVerdict (configAt n) (fromHex s)) (configAt n) (shownRow (configAt n) (bytesIn (fromHex s))) top bits (refusal 11) 11
+        makes-refused (lineVerdict (configAt n) (fromHex s)) (configAt n) (shownRow (configAt n) (bytesIn (fromHex s))) top bits
+        (refusal 11) 11
         (ap (lineVerdict (configAt n)) (subst (λ (x : Hex). Hexed s x to) e H)) refl
 
     -- with areas lent, reading judges by the row alone
@@ -177,6 +186,7 @@ module _ (s to : List ℕ) {h : Hex} (H : Hexed s h to) where
         → Reads n (take k to) top bits r top′ bits′ → ReadsLine n s top bits r top′ bits′
     unfolding readVerdict
     row-told {k} e a {r} {top′} {bits′} R =
-        subst (λ (o : Option (List ℕ)). Makes (lineVerdict (configAt n) o) (configAt n) (shownRow (configAt n) (bytesIn o)) top bits r top′ bits′) (sym (hexed e .1))
+        subst (λ (o : Option (List ℕ)). Makes (lineVerdict (configAt n) o) (configAt n)
+        (shownRow (configAt n) (bytesIn o)) top bits r top′ bits′) (sym (hexed e .1))
         (subst (λ (v : Verdict). Makes v (configAt n) (shownRow (configAt n) (take k to)) top bits r top′ bits′)
         (after-taken (areasLent n (length top) (length bits)) (isRowOf (configAt n) (take k to)) a) R)

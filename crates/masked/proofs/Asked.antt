@@ -9,7 +9,8 @@ use Rattle.sets.specs.Sets.{Agree, Set, apart, members}
 use Rattle.sets.specs.Words.{blockAt}
 use Rattle.sets.specs.Configurations.{W, blocksFor, configAt, positionBits}
 use Rattle.sets.specs.Masks.{holder, kept, keyOf, laid, largestMaskSize, orderOf, slotsFit}
-use Rattle.sets.specs.Refusals.{Test, Verdict, taken, refused, verdict, answer, filterLent, filtersLent, firstFailing, fitsSlots, inOrder, isMask}
+use Rattle.sets.specs.Refusals.{Test, Verdict, taken, refused, verdict, answer, filterLent, filtersLent, firstFailing, fitsSlots, inOrder}
+use Rattle.sets.specs.Refusals.{isMask}
 use Rattle.sets.proofs.Configurations.{at-each}
 use Rattle.sets.proofs.Laws.{members-same}
 use Rattle.sets.proofs.Masks.{kept-same}
@@ -37,7 +38,8 @@ use Rattle.masked.specs.declared.OrderAnswer.{OrderAnswer}
 use Rattle.masked.specs.declared.OrderAnswer.the-variants as orders
 
 -- a single test is left
-pub answer-last : {A : Type 0} (F : Refusal → A) (a : A) (b : Bool) (k : ℕ) → answer (cond b taken (refused k)) (λ n. F (refusal n)) a ≡ cond b a (F (refusal k))
+pub answer-last : {A : Type 0} (F : Refusal → A) (a : A) (b : Bool) (k : ℕ)
+    → answer (cond b taken (refused k)) (λ n. F (refusal n)) a ≡ cond b a (F (refusal k))
 answer-last F a true k = refl
 answer-last F a false k = refl
 
@@ -106,7 +108,8 @@ module _ (a : Filter) (top bits : List ℕ) (b : Filter) (top2 bits2 : List ℕ)
   cmp-taken t m = ap (λ (v : Verdict). answer v (λ x. orders.Refused (refusal x)) cmpShown) (sym (mask-passes mask size cmpLent [] t m))
 
   -- what a judge refuses, the call does
-  pub cmp-refused : {x : Refusal} → ((k : ℕ) × (firstFailing cmpLent ≡ refused k) × (x ≡ refusal k)) → orders.Refused x ≡ cmpOf a top bits b top2 bits2 mask size
+  pub cmp-refused : {x : Refusal} → ((k : ℕ) × (firstFailing cmpLent ≡ refused k) × (x ≡ refusal k))
+      → orders.Refused x ≡ cmpOf a top bits b top2 bits2 mask size
   unfolding cmpOf cmpVerdict
   cmp-refused w = refuses (λ x. orders.Refused x) cmpShown (w .0, after-refused cmpLent (isMask mask size) (w .1), w .2)
 
@@ -117,13 +120,16 @@ module _ (a : Filter) (top bits : List ℕ) (b : Filter) (top2 bits2 : List ℕ)
         let t = mask-refused mask size x (sym m ∙ u) in
         refuses (λ x. orders.Refused x) cmpShown (t .0, mask-decides mask size cmpLent [] (O .takenIs) (t .1), t .2)
 
-    pub cmp-done : i ≡ masks.Fits → {n n2 block : ℕ} → n ≡ blocksFor (a .boundary) → n2 ≡ blocksFor (b .boundary) → block ≡ blockAt (laid mask size) 0
-        → {r : OrderAnswer} → r ≡ orderTold (orderOf (64 * s .blocks) block size (filterSet top (a .count) bits n) (filterSet top2 (b .count) bits2 n2))
+    pub cmp-done : i ≡ masks.Fits → {n n2 block : ℕ} → n ≡ blocksFor (a .boundary) → n2 ≡ blocksFor (b .boundary)
+        → block ≡ blockAt (laid mask size) 0
+        → {r : OrderAnswer} → r
+        ≡ orderTold (orderOf (64 * s .blocks) block size (filterSet top (a .count) bits n) (filterSet top2 (b .count) bits2 n2))
         → r ≡ cmpOf a top bits b top2 bits2 mask size
     cmp-done f {n} {n2} h h2 l r =
         r
         ∙ ap orderTold
-        (order-asked mask size m f l (O .sizes .buckets) (filterSet top (a .count) bits n) (filterSet top2 (b .count) bits2 n2) (shownBy a top bits)
+        (order-asked mask size m f l (O .sizes .buckets) (filterSet top (a .count) bits n) (filterSet top2 (b .count) bits2 n2)
+        (shownBy a top bits)
         (shownBy b top2 bits2) (fits-walk n h (O .fits) .1) (fits-walk n2 h2 (O .fits2) .1))
         ∙ cmp-taken (O .takenIs) (mask-facts mask size m f .0)
 
@@ -141,13 +147,15 @@ module _ (f : Filter) (top bits : List ℕ) (mask size : ℕ) where
 
   -- 10 is left
   pub key-taken : firstFailing keyLent ≡ taken → verdict (isMask mask size) ≡ taken
-      → keyTold (positionBits (configAt (f .config))) (members (kept mask size (shownBy f top bits)) (W (configAt (f .config)))) ≡ keyFor f top bits mask size
+      → keyTold (positionBits (configAt (f .config))) (members (kept mask size (shownBy f top bits)) (W (configAt (f .config))))
+      ≡ keyFor f top bits mask size
   unfolding keyFor keyOf keyTold keyVerdict slotsFit
   key-taken t m =
       sym (answer-last (λ x. keys.Refused x) keyShown (slotsFit (configAt (f .config)) mask size (shownBy f top bits)) 10)
       ∙ ap (λ (v : Verdict). answer v (λ x. keys.Refused (refusal x)) keyShown) (sym (mask-passes mask size keyLent slots t m))
 
-  pub key-refused : {x : Refusal} → ((k : ℕ) × (firstFailing keyLent ≡ refused k) × (x ≡ refusal k)) → keys.Refused x ≡ keyFor f top bits mask size
+  pub key-refused : {x : Refusal} → ((k : ℕ) × (firstFailing keyLent ≡ refused k) × (x ≡ refusal k))
+      → keys.Refused x ≡ keyFor f top bits mask size
   unfolding keyFor keyVerdict
   key-refused w = refuses (λ x. keys.Refused x) keyShown (w .0, after-refused keyLent (isMask mask size ++ slots) (w .1), w .2)
 
@@ -159,9 +167,11 @@ module _ (f : Filter) (top bits : List ℕ) (mask size : ℕ) where
         refuses (λ x. keys.Refused x) keyShown (t .0, mask-decides mask size keyLent slots (O .takenIs) (t .1), t .2)
 
     pub key-done : i ≡ masks.Fits → {n block : ℕ} → n ≡ blocksFor (f .boundary) → block ≡ blockAt (laid mask size) 0
-        → {r : KeyAnswer} → r ≡ keyTold (s .bits) (members (kept block size (filterSet top (f .count) bits n)) (64 * s .blocks)) → r ≡ keyFor f top bits mask size
+        → {r : KeyAnswer} → r
+        ≡ keyTold (s .bits) (members (kept block size (filterSet top (f .count) bits n)) (64 * s .blocks)) → r ≡ keyFor f top bits mask size
     key-done g {n} h l r =
         r
         ∙ ap₂ keyTold (O .sizes .slots)
-        (members-asked mask size m g l (O .sizes .buckets) (filterSet top (f .count) bits n) (shownBy f top bits) (fits-walk n h (O .fits) .1))
+        (members-asked mask size m g l (O .sizes .buckets) (filterSet top (f .count) bits n) (shownBy f top bits)
+        (fits-walk n h (O .fits) .1))
         ∙ key-taken (O .takenIs) (mask-facts mask size m g .0)

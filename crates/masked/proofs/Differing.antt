@@ -37,7 +37,8 @@ pub differ-start : {tops others : List ℕ} {passed other k : ℕ} (S R : Set) (
     → Differing S R mask size tops others k passed other k
 differ-start S R mask size a b = record { skips = skip-start (apart S R) mask size a; otherAhead = b }
 
-module _ {S R : Set} {mask size : ℕ} {tops others : List ℕ} {k passed other end : ℕ} (t : Differing S R mask size tops others k passed other end) where
+module _ {S R : Set} {mask size : ℕ} {tops others : List ℕ} {k passed other end : ℕ}
+    (t : Differing S R mask size tops others k passed other end) where
   pub differ-none : {r : NextXor} → r ≡ Nothing → NextApart S R tops others end r → Empty (kept mask size (apart S R)) 0 (64 * k)
   differ-none q n = skip-none (t .skips) {r = chunks.Nothing} refl (subst (NextApart S R tops others end) q n)
 
@@ -94,7 +95,9 @@ module _ {mask size : ℕ} {S R : Set} {k keeps first : ℕ} (d : DecidesAt mask
     -- the highest place of the block is the largest kept bucket that exactly one of the two holds
     order-is : orderOf (64 * k) mask size S R ≡ cond (S (64 * i + bit)) greater less
     unfolding orderOf
-    order-is = ap (holder S) (members-head D (64 * i + bit) (64 * k) (omega (arith, t .small, d .under)) (highest .0) (λ p a b. go p a b (decLt p (64 * suc i))))
+    order-is =
+        ap (holder S) (members-head D (64 * i + bit) (64 * k) (omega (arith, t .small, d .under)) (highest .0)
+        (λ p a b. go p a b (decLt p (64 * suc i))))
       where
         go : (p : ℕ) → 64 * i + bit < p → p < 64 * k → Dec (p < 64 * suc i) → D p ≡ false
         go p a b (yes h) =
@@ -127,7 +130,8 @@ module _ {mask size : ℕ} {S R : Set} {k keeps first : ℕ} (d : DecidesAt mask
       ∙ sym (order-is t))
 
 -- what a search found tells the order
-pub decides-order : (mask size : ℕ) (S R : Set) (k : ℕ) (d : Deciding) → Decides mask size S R k d → decided d ≡ orderTold (orderOf (64 * k) mask size S R)
+pub decides-order : (mask size : ℕ) (S R : Set) (k : ℕ) (d : Deciding) → Decides mask size S R k d
+    → decided d ≡ orderTold (orderOf (64 * k) mask size S R)
 decides-order mask size S R k (found.Block keeps first) e = order-decided e
 decides-order mask size S R k found.Nothing e = order-none mask size S R k e
 

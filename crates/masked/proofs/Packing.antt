@@ -27,7 +27,8 @@ use Rattle.masked.specs.declared.KeyAnswer.the-variants.{Key, Refused}
 
 -- the answer where `slots` whole slots and the leftover are still to be filled from ps, below what `key` holds
 unfoldable pub told : ℕ → ℕ → ℕ → ℕ → List ℕ → KeyAnswer
-told bits leftover slots key ps = cond (allBelow (2 ^ bits) (take (suc slots) ps)) (Key (key + packed bits leftover slots ps)) (Refused (refusal 10))
+told bits leftover slots key ps =
+    cond (allBelow (2 ^ bits) (take (suc slots) ps)) (Key (key + packed bits leftover slots ps)) (Refused (refusal 10))
 
 module _ (bits leftover : ℕ) where
   told-nil : (slots key : ℕ) → told bits leftover slots key [] ≡ Key key
@@ -40,7 +41,8 @@ module _ (bits leftover : ℕ) where
     told-bad slots key h = rw (le-ltb p (2 ^ bits) h)
 
     module _ (h : p < 2 ^ bits) where
-      told-more : (slots key : ℕ) → told bits leftover (suc slots) key (p ∷ ps) ≡ told bits leftover slots (key + p * 2 ^ (slots * bits + leftover)) ps
+      told-more : (slots key : ℕ)
+          → told bits leftover (suc slots) key (p ∷ ps) ≡ told bits leftover slots (key + p * 2 ^ (slots * bits + leftover)) ps
       unfolding told packed
       told-more slots key = rw (lt-ltb p (2 ^ bits) h, add-assoc key (p * 2 ^ (slots * bits + leftover)) (packed bits leftover slots ps))
 
@@ -84,10 +86,12 @@ pack-start {tops} {k} S bits a =
       ahead = a;
     }
 
-module _ {S : Set} {tops : List ℕ} {bits : ℕ} {all : List ℕ} {key room passed end block : ℕ} (t : Packing S tops bits all key room passed end block) where
+module _ {S : Set} {tops : List ℕ} {bits : ℕ} {all : List ℕ} {key room passed end block : ℕ}
+    (t : Packing S tops bits all key room passed end block) where
   pub pack-none : {r : NextOne} → r ≡ Nothing → Gives S tops (rest S end block) r → Key key ≡ keyTold bits all
   pack-none q g =
-      sym (t .same ∙ ap (told bits (64 % bits) (t .slots) key) (subst (Gives S tops (rest S end block)) q g) ∙ told-nil bits (64 % bits) (t .slots) key)
+      sym (t .same ∙ ap (told bits (64 % bits) (t .slots) key) (subst (Gives S tops (rest S end block)) q g)
+      ∙ told-nil bits (64 % bits) (t .slots) key)
 
   module _ {r : NextOne} {p : ℕ} {o : Ones} (q : r ≡ At p o) (g : Gives S tops (rest S end block) r) where
     step : Gives S tops (rest S end block) (At p o)
@@ -134,7 +138,9 @@ module _ {S : Set} {tops : List ℕ} {bits : ℕ} {all : List ℕ} {key room pas
                     roomIs = f;
                     small = omega (arith, t .small);
                     spare = omega (arith, slot-room bits room p h l, t .spare);
-                    same = n ∙ told-more bits (64 % bits) p ps h slots key ∙ ap (λ (x : ℕ). told bits (64 % bits) slots (key + p * 2 ^ x) ps) (sym f);
+                    same =
+                        n ∙ told-more bits (64 % bits) p ps h slots key
+                        ∙ ap (λ (x : ℕ). told bits (64 % bits) slots (key + p * 2 ^ x) ps) (sym f);
                     ahead = step .1;
                   }
 
@@ -146,7 +152,8 @@ module _ {S : Set} {tops : List ℕ} {bits : ℕ} {all : List ℕ} {key room pas
           pub pack-last : Key (key + p / 2 ^ (bits - room)) ≡ keyTold bits all
           pack-last = sym (go (t .slots) (t .roomIs) next)
             where
-              go : (n : ℕ) → room ≡ n * bits + 64 % bits → keyTold bits all ≡ told bits (64 % bits) n key (p ∷ ps) → keyTold bits all ≡ Key (key + p / 2 ^ (bits - room))
+              go : (n : ℕ) → room ≡ n * bits + 64 % bits → keyTold bits all ≡ told bits (64 % bits) n key (p ∷ ps)
+                  → keyTold bits all ≡ Key (key + p / 2 ^ (bits - room))
               go zero e n =
                   let f : 64 % bits ≡ room = omega arith in
                   n ∙ told-last bits (64 % bits) p ps h key ∙ ap (λ (x : ℕ). Key (key + p / 2 ^ (bits - x))) f

@@ -37,7 +37,8 @@ pub cmp-once : (a : Filter) (top bits : List ℕ) (b : Filter) (top2 bits2 : Lis
     → r ≡ cmpOf a top bits b top2 bits2 mask size → t ≡ cmpOf a top bits b top2 bits2 mask size → r ≡ t
 cmp-once a top bits b top2 bits2 mask size r t x y = x ∙ sym y
 
-pub key-once : (f : Filter) (top bits : List ℕ) (mask size : ℕ) (r t : KeyAnswer) → r ≡ keyFor f top bits mask size → t ≡ keyFor f top bits mask size → r ≡ t
+pub key-once : (f : Filter) (top bits : List ℕ) (mask size : ℕ) (r t : KeyAnswer) → r ≡ keyFor f top bits mask size
+    → t ≡ keyFor f top bits mask size → r ≡ t
 key-once f top bits mask size r t x y = x ∙ sym y
 
 -- ---- the tests, where all pass
@@ -48,9 +49,11 @@ mask-taken mask size m = rw (le-leb 1 size (m .0), le-leb size largestMaskSize (
 -- ---- where no test fails
 
 module _ (mask size : ℕ) (m : verdict (isMask mask size) ≡ taken) where
-  pub cmp-passes : (f : Filter) (top bits : List ℕ) (g : Filter) (top2 bits2 : List ℕ) → Passes (f .config) (tallyOf f) top bits → Passes (g .config) (tallyOf g) top2 bits2
+  pub cmp-passes : (f : Filter) (top bits : List ℕ) (g : Filter) (top2 bits2 : List ℕ) → Passes (f .config) (tallyOf f) top bits
+      → Passes (g .config) (tallyOf g) top2 bits2
       → f .config ≡ g .config
-      → cmpOf f top bits g top2 bits2 mask size ≡ orderTold (orderOf (W (configAt (f .config))) mask size (shownBy f top bits) (shownBy g top2 bits2))
+      → cmpOf f top bits g top2 bits2 mask size
+      ≡ orderTold (orderOf (W (configAt (f .config))) mask size (shownBy f top bits) (shownBy g top2 bits2))
   cmp-passes f top bits g top2 bits2 p q e = sym (cmp-taken f top bits g top2 bits2 mask size (both-pass f top bits g top2 bits2 p q e) m)
 
   pub key-passes : (f : Filter) (top bits : List ℕ) → Passes (f .config) (tallyOf f) top bits
@@ -65,8 +68,10 @@ module _ (mask size : ℕ) (m : verdict (isMask mask size) ≡ taken) where
 -- ---- order and key of the filters of sets
 
 -- the order asked is that of the sets, or the mask's refusal
-pub cmp-asked : (f : Filter) (top bits : List ℕ) (g : Filter) (top2 bits2 : List ℕ) (S T : Set) → Of f top bits S → Of g top2 bits2 T → f .config ≡ g .config
-    → (mask size : ℕ) → cmpOf f top bits g top2 bits2 mask size ≡ orderAnswer (verdict (isMask mask size)) (orderOf (W (configAt (f .config))) mask size S T)
+pub cmp-asked : (f : Filter) (top bits : List ℕ) (g : Filter) (top2 bits2 : List ℕ) (S T : Set) → Of f top bits S
+    → Of g top2 bits2 T → f .config ≡ g .config
+    → (mask size : ℕ) → cmpOf f top bits g top2 bits2 mask size
+    ≡ orderAnswer (verdict (isMask mask size)) (orderOf (W (configAt (f .config))) mask size S T)
 unfolding cmpOf cmpVerdict
 cmp-asked f top bits g top2 bits2 S T x y e mask size =
     ap₂ orderAnswer
@@ -76,14 +81,16 @@ cmp-asked f top bits g top2 bits2 S T x y e mask size =
     (subst (λ (n : ℕ). Agree (W (configAt n)) (shownBy g top2 bits2) T) (sym e) (of-shown g top2 bits2 T y)))
 
 module _ (mask size : ℕ) (m : MaskFits mask size) where
-  pub cmp-sets : (f : Filter) (top bits : List ℕ) (g : Filter) (top2 bits2 : List ℕ) (S T : Set) → Of f top bits S → Of g top2 bits2 T → f .config ≡ g .config
+  pub cmp-sets : (f : Filter) (top bits : List ℕ) (g : Filter) (top2 bits2 : List ℕ) (S T : Set) → Of f top bits S
+      → Of g top2 bits2 T → f .config ≡ g .config
       → cmpOf f top bits g top2 bits2 mask size ≡ orderTold (orderOf (W (configAt (f .config))) mask size S T)
   cmp-sets f top bits g top2 bits2 S T x y e =
       cmp-asked f top bits g top2 bits2 S T x y e mask size
       ∙ ap (λ (v : Verdict). orderAnswer v (orderOf (W (configAt (f .config))) mask size S T)) (mask-taken mask size m)
 
   -- the key asked is that of the set
-  pub key-set : (f : Filter) (top bits : List ℕ) (S : Set) → Of f top bits S → keyFor f top bits mask size ≡ keys.Key (keyOf (configAt (f .config)) mask size S)
+  pub key-set : (f : Filter) (top bits : List ℕ) (S : Set) → Of f top bits S
+      → keyFor f top bits mask size ≡ keys.Key (keyOf (configAt (f .config)) mask size S)
   key-set f top bits S x =
       key-passes mask size (mask-taken mask size m) f top bits (of-passes f top bits S x)
       ∙ ap keys.Key (key-same (configAt (f .config)) mask size (shownBy f top bits) S (of-shown f top bits S x))
@@ -92,12 +99,14 @@ module _ (mask size : ℕ) (m : MaskFits mask size) where
   module _ (n : ℕ) (k : known n ≡ true) where
     pub cmp-written : (S T : Set) (top bits top2 bits2 : List ℕ) →
         let c = configAt n in
-        cmpOf (filterIn (recordOf c S)) (topSlice c S top) (bitSlice c S bits) (filterIn (recordOf c T)) (topSlice c T top2) (bitSlice c T bits2) mask size
+        cmpOf (filterIn (recordOf c S)) (topSlice c S top) (bitSlice c S bits) (filterIn (recordOf c T)) (topSlice c T top2)
+        (bitSlice c T bits2) mask size
         ≡ orderTold (orderOf (W c) mask size S T)
     unfolding recordOf
     cmp-written S T top bits top2 bits2 =
         let c : Config = configAt n in
-        cmp-sets (filterIn (recordOf c S)) (topSlice c S top) (bitSlice c S bits) (filterIn (recordOf c T)) (topSlice c T top2) (bitSlice c T bits2) S T
+        cmp-sets (filterIn (recordOf c S)) (topSlice c S top) (bitSlice c S bits) (filterIn (recordOf c T)) (topSlice c T top2)
+        (bitSlice c T bits2) S T
         (of-set n k S top bits) (of-set n k T top2 bits2) refl
         ∙ ap (λ (x : ℕ). orderTold (orderOf (W (configAt x)) mask size S T)) (number-at n k)
 
@@ -134,7 +143,8 @@ back-told less = refl
 back-told equal = refl
 back-told greater = refl
 
-order-answered : (v : Verdict) (o p : Ordering) → answer v (λ n. orders.Refused (refusal n)) (orderTold o) ≡ orderTold p → (v ≡ taken) × (o ≡ p)
+order-answered : (v : Verdict) (o p : Ordering) → answer v (λ n. orders.Refused (refusal n)) (orderTold o) ≡ orderTold p
+    → (v ≡ taken) × (o ≡ p)
 order-answered taken o p e = (refl, sym (back-told o) ∙ ap back e ∙ back-told p)
 order-answered (refused k) o p e = absurd (order-no-refusal p (refusal k) (sym e))
 
@@ -145,7 +155,8 @@ key-answered (refused n) k x e =
     absurd (omega arith)
 
 key-told : (f : Filter) (top bits : List ℕ) (mask size x : ℕ) → keyFor f top bits mask size ≡ keys.Key x
-    → Passes (f .config) (tallyOf f) top bits × (verdict (isMask mask size) ≡ taken) × (keyOf (configAt (f .config)) mask size (shownBy f top bits) ≡ x)
+    → Passes (f .config) (tallyOf f) top bits × (verdict (isMask mask size) ≡ taken)
+    × (keyOf (configAt (f .config)) mask size (shownBy f top bits) ≡ x)
 unfolding keyFor keyVerdict
 key-told f top bits mask size x e =
     let c : Config = configAt (f .config) in
@@ -168,7 +179,8 @@ module _ (f : Filter) (top bits : List ℕ) (g : Filter) (top2 bits2 : List ℕ)
 
   -- where the order is answered, both keys are
   both-keys : (o : Ordering) → cmpOf f top bits g top2 bits2 mask size ≡ orderTold o
-      → (keyFor f top bits mask size ≡ keys.Key (keyOf line mask size S)) × (keyFor g top2 bits2 mask size ≡ keys.Key (keyOf line mask size T)) × (orderOf (W line) mask size S T ≡ o)
+      → (keyFor f top bits mask size ≡ keys.Key (keyOf line mask size S))
+      × (keyFor g top2 bits2 mask size ≡ keys.Key (keyOf line mask size T)) × (orderOf (W line) mask size S T ≡ o)
   unfolding cmpOf cmpVerdict
   both-keys o e =
       let a = order-answered (cmpVerdict f top bits g top2 bits2 mask size) (orderOf (W line) mask size S T) o e in
@@ -192,8 +204,13 @@ module _ (f : Filter) (top bits : List ℕ) (g : Filter) (top2 bits2 : List ℕ)
   pub less-keys : cmpOf f top bits g top2 bits2 mask size ≡ orders.Less
       → (x : ℕ) × (y : ℕ) × (keyFor f top bits mask size ≡ keys.Key x) × (keyFor g top2 bits2 mask size ≡ keys.Key y) × (x ≤ y)
   less-keys e =
-      let t = both-keys less e in
-      (keyOf line mask size S, keyOf line mask size T, t .0, t .1, greater-key line mask size T S (order-swap (W line) mask size S T ∙ ap opposite (t .2)))
+      let t = both-keys less e in (
+        keyOf line mask size S,
+        keyOf line mask size T,
+        t .0,
+        t .1,
+        greater-key line mask size T S (order-swap (W line) mask size S T ∙ ap opposite (t .2)),
+      )
 
   -- equal filters have one key
   pub equal-keys : cmpOf f top bits g top2 bits2 mask size ≡ orders.Equal → keyFor f top bits mask size ≡ keyFor g top2 bits2 mask size
@@ -202,10 +219,12 @@ module _ (f : Filter) (top bits : List ℕ) (g : Filter) (top2 bits2 : List ℕ)
       t .0 ∙ ap keys.Key (equal-key line mask size S T (t .2)) ∙ sym (t .1)
 
   -- so keys that differ decide the order
-  pub keys-decide : f .config ≡ g .config → (x y : ℕ) → keyFor f top bits mask size ≡ keys.Key x → keyFor g top2 bits2 mask size ≡ keys.Key y → y < x
+  pub keys-decide : f .config ≡ g .config → (x y : ℕ) → keyFor f top bits mask size ≡ keys.Key x
+      → keyFor g top2 bits2 mask size ≡ keys.Key y → y < x
       → cmpOf f top bits g top2 bits2 mask size ≡ orders.Greater
   keys-decide e x y h l d =
       let a = key-told f top bits mask size x h in
       let b = key-told g top2 bits2 mask size y l in
       let k : keyOf line mask size T ≡ y = ap (λ (n : ℕ). keyOf (configAt n) mask size T) e ∙ b .2 in
-      cmp-passes mask size (a .1) f top bits g top2 bits2 (a .0) (b .0) e ∙ ap orderTold (key-greater line mask size S T (omega (arith, a .2)))
+      cmp-passes mask size (a .1) f top bits g top2 bits2 (a .0) (b .0) e
+      ∙ ap orderTold (key-greater line mask size S T (omega (arith, a .2)))

@@ -57,7 +57,9 @@ module _ {m k level : ℕ} {bits₀ : List ℕ} {split : ℕ} {next : Stage} (s 
       subst (λ (c : ℕ). Taken k (next .split) c pending bits₀ pending bits₀) none
       record {
         inRange = λ i h. absurd (omega arith);
-        clear = none-more (held bits₀) (next .split) (64 * k) (omega (arith, s .counts, members-onward (held bits₀) (next .split) (64 * k) (s .low)));
+        clear =
+            none-more (held bits₀) (next .split) (64 * k)
+            (omega (arith, s .counts, members-onward (held bits₀) (next .split) (64 * k) (s .low)));
         sets = λ p h. refl;
         pendingRest = refl;
         bitRest = refl;
@@ -97,7 +99,8 @@ module _ {m k level : ℕ} {bits₀ : List ℕ} {split : ℕ} {next : Stage} (s 
       tops : take c pending ≡ take c (members S n)
       tops = subst (λ (x : ℕ). take x pending ≡ take x (members S n)) all (l .tops)
 
-module _ {m k : ℕ} {pending₀ bits₀ : List ℕ} {stage : Stage} (room : Room (2 * m) k pending₀ bits₀) (staged : Staged m k pending₀ bits₀ stage) where
+module _ {m k : ℕ} {pending₀ bits₀ : List ℕ} {stage : Stage} (room : Room (2 * m) k pending₀ bits₀)
+    (staged : Staged m k pending₀ bits₀ stage) where
   -- the blocks have room for the buckets pending
   pub fold-fits : (stage .count ≤ length pending₀) × Below (64 * length bits₀) (take (stage .count) pending₀)
   fold-fits = (omega (arith, staged .few, room .cells), λ i h. omega (arith, staged .inRange i h, room .blocksIn))
@@ -110,7 +113,8 @@ module _ {m k : ℕ} {pending₀ bits₀ : List ℕ} {stage : Stage} (room : Roo
     fits : 2 * m ≤ length pending₁
     fits = omega (arith, t .pendingLength, room .cells)
 
-    pub compacted : {pending : List ℕ} → pending ≡ zeroed (next .count) (2 * m) pending₁ → Moves m k level [] pending₀ bits₀ stage pending bits next × (next .count ≤ m)
+    pub compacted : {pending : List ℕ} → pending ≡ zeroed (next .count) (2 * m) pending₁
+        → Moves m k level [] pending₀ bits₀ stage pending bits next × (next .count ≤ m)
     compacted {pending} z = (moves, s .few)
       where
         c : ℕ

@@ -13,7 +13,8 @@ use Rattle.pending.specs.declared.Stage.{Stage}
 use Rattle.pending.specs.Stages.{Staged, Moves, Stays}
 use Rattle.pending.proofs.Settling.{rises-stay, rises-trans}
 
-pub moves-stay : (m k level : ℕ) (pending bits : List ℕ) (s : Stage) → Staged m k pending bits s → Moves m k level [] pending bits s pending bits s
+pub moves-stay : (m k level : ℕ) (pending bits : List ℕ) (s : Stage) → Staged m k pending bits s
+    → Moves m k level [] pending bits s pending bits s
 moves-stay m k level pending bits s h =
     record {
       staged = h;
@@ -25,7 +26,8 @@ moves-stay m k level pending bits s h =
       bitLength = refl;
     }
 
-pub moves-trans : {m k level : ℕ} {bs cs pending₀ bits₀ pending bits pending′ bits′ : List ℕ} {s r u : Stage} → Moves m k level bs pending₀ bits₀ s pending bits r
+pub moves-trans : {m k level : ℕ} {bs cs pending₀ bits₀ pending bits pending′ bits′ : List ℕ} {s r u : Stage}
+    → Moves m k level bs pending₀ bits₀ s pending bits r
     → Moves m k level cs pending bits r pending′ bits′ u → Moves m k level (bs ++ cs) pending₀ bits₀ s pending′ bits′ u
 moves-trans {m} {k} {level} {bs} {cs} {pending₀} {bits₀} {pending} {bits} {pending′} {bits′} {s} {r} {u} a b =
     let S : Set = builderSet pending₀ bits₀ (s .count) in
@@ -42,10 +44,16 @@ moves-trans {m} {k} {level} {bs} {cs} {pending₀} {bits₀} {pending} {bits} {p
       bitLength = b .bitLength ∙ a .bitLength;
     }
 
-pub moves-room : {m k level : ℕ} {bs pending₀ bits₀ pending bits : List ℕ} {s r : Stage} → Moves m k level bs pending₀ bits₀ s pending bits r
+pub moves-room : {m k level : ℕ} {bs pending₀ bits₀ pending bits : List ℕ} {s r : Stage}
+    → Moves m k level bs pending₀ bits₀ s pending bits r
     → Room (2 * m) k pending₀ bits₀ → Room (2 * m) k pending bits
 moves-room a r =
-    record { some = r .some; cells = omega (arith, a .pendingLength, r .cells); blocksIn = omega (arith, a .bitLength, r .blocksIn); small = r .small }
+    record {
+      some = r .some;
+      cells = omega (arith, a .pendingLength, r .cells);
+      blocksIn = omega (arith, a .bitLength, r .blocksIn);
+      small = r .small;
+    }
 
 -- ---- where all finds room
 

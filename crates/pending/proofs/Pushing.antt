@@ -31,9 +31,11 @@ below-one : (n b : ℕ) → b < n → Below n (b ∷ [])
 below-one n b h zero i = h
 below-one n b h (suc j) i = absurd (omega arith)
 
-module _ {m k : ℕ} {pending bits : List ℕ} {s : Stage} (room : Room (2 * m) k pending bits) (h : Staged m k pending bits s) (b : ℕ) (w : b < 64 * k) where
+module _ {m k : ℕ} {pending bits : List ℕ} {s : Stage} (room : Room (2 * m) k pending bits) (h : Staged m k pending bits s)
+    (b : ℕ) (w : b < 64 * k) where
   -- one more bucket pending
-  stored : (level : ℕ) (pending′ : List ℕ) (r : Stage) → s .count < 2 * m → pending′ ≡ set pending (s .count) b → r .split ≡ s .split → r .count ≡ s .count + 1
+  stored : (level : ℕ) (pending′ : List ℕ) (r : Stage) → s .count < 2 * m → pending′ ≡ set pending (s .count) b
+      → r .split ≡ s .split → r .count ≡ s .count + 1
       → Moves m k level (b ∷ []) pending bits s pending′ bits r
   stored level pending′ r l e x y =
       let c : ℕ = s .count in
@@ -45,9 +47,13 @@ module _ {m k : ℕ} {pending bits : List ℕ} {s : Stage} (room : Room (2 * m) 
           inRange = subst (Below (64 * k)) (sym tk) (below-append (take c pending) (b ∷ []) (64 * k) (h .inRange) (below-one (64 * k) b w));
           low = omega (arith, h .low);
           clear = λ p i. h .clear p (omega arith);
-          unused = λ i a j. ap (λ (z : List ℕ). getD z i 0) e ∙ getD-set-other pending c i b 0 (λ q. absurd (omega arith)) ∙ h .unused i (omega arith) j;
+          unused =
+              λ i a j. ap (λ (z : List ℕ). getD z i 0) e ∙ getD-set-other pending c i b 0 (λ q. absurd (omega arith))
+              ∙ h .unused i (omega arith) j;
         };
-        sets = λ p j. ap (λ (z : List ℕ). flips z (held bits) p) tk ∙ ap (λ (R : Set). R p) (flips-append (take c pending) (b ∷ []) (held bits));
+        sets =
+            λ p j. ap (λ (z : List ℕ). flips z (held bits) p) tk
+            ∙ ap (λ (R : Set). R p) (flips-append (take c pending) (b ∷ []) (held bits));
         rises = subst (Rises level (64 * k) (s .split)) (sym x) (rises-stay level (64 * k) (s .split) (h .low));
         pendingRest = ap (drop (2 * m)) e ∙ drop-set-lt (2 * m) pending c b l;
         bitRest = refl;
@@ -56,7 +62,8 @@ module _ {m k : ℕ} {pending bits : List ℕ} {s : Stage} (room : Room (2 * m) 
       }
 
   -- below the split its bit flips
-  pub push-low : (level : ℕ) (bits′ : List ℕ) → b < s .split → bits′ ≡ flipBit bits b → Moves m k level (b ∷ []) pending bits s pending bits′ s × Stays m (b ∷ []) s s
+  pub push-low : (level : ℕ) (bits′ : List ℕ) → b < s .split → bits′ ≡ flipBit bits b
+      → Moves m k level (b ∷ []) pending bits s pending bits′ s × Stays m (b ∷ []) s s
   push-low level bits′ l e =
       let c : List ℕ = take (s .count) pending in
       let d : b / 64 < k = omega arith in
@@ -89,7 +96,8 @@ module _ {m k : ℕ} {pending bits : List ℕ} {s : Stage} (room : Room (2 * m) 
       (stored level pending′ r l (e .0) (e .1) (e .2), λ f. (e .1, omega (arith, z, e .2)))
 
 -- once a full area is compacted
-pub push-full : {m k level : ℕ} {pending₀ bits₀ pending bits : List ℕ} {s r : Stage} → Room (2 * m) k pending₀ bits₀ → (b : ℕ) → b < 64 * k → (pending′ : List ℕ) (u : Stage)
+pub push-full : {m k level : ℕ} {pending₀ bits₀ pending bits : List ℕ} {s r : Stage} → Room (2 * m) k pending₀ bits₀ → (b : ℕ)
+    → b < 64 * k → (pending′ : List ℕ) (u : Stage)
     → s .split ≤ b → 2 * m ≤ s .count → Moves m k level [] pending₀ bits₀ s pending bits r × (r .count ≤ m)
     → (pending′ ≡ set pending (r .count) b) × (u .split ≡ r .split) × (u .count ≡ r .count + 1)
     → Moves m k level (b ∷ []) pending₀ bits₀ s pending′ bits u × Stays m (b ∷ []) s u
@@ -106,17 +114,21 @@ pub record Pushing (m k level : ℕ) (list pending₀ bits₀ : List ℕ) (s : S
   pub moves : Moves m k level (take i list) pending₀ bits₀ s pending bits r
   pub stays : Stays m (take i list) s r
 
-pub push-start : (m k level : ℕ) (list pending bits : List ℕ) (s : Stage) → Staged m k pending bits s → Pushing m k level list pending bits s pending bits s 0
+pub push-start : (m k level : ℕ) (list pending bits : List ℕ) (s : Stage) → Staged m k pending bits s
+    → Pushing m k level list pending bits s pending bits s 0
 push-start m k level list pending bits s h =
     record { few = omega arith; moves = moves-stay m k level pending bits s h; stays = stays-stay m s }
 
-module _ {m k level : ℕ} {list pending₀ bits₀ : List ℕ} {s : Stage} {pending bits : List ℕ} {r : Stage} {i : ℕ} (t : Pushing m k level list pending₀ bits₀ s pending bits r i) where
+module _ {m k level : ℕ} {list pending₀ bits₀ : List ℕ} {s : Stage} {pending bits : List ℕ} {r : Stage} {i : ℕ}
+    (t : Pushing m k level list pending₀ bits₀ s pending bits r i) where
   pub push-end : length list ≤ i → Moves m k level list pending₀ bits₀ s pending bits r × Stays m list s r
-  push-end h = subst (λ (l : List ℕ). Moves m k level l pending₀ bits₀ s pending bits r × Stays m l s r) (take-all i list h) (t .moves, t .stays)
+  push-end h =
+      subst (λ (l : List ℕ). Moves m k level l pending₀ bits₀ s pending bits r × Stays m l s r) (take-all i list h) (t .moves, t .stays)
 
   -- the next one
   pub push-turn : (b : ℕ) → i < length list → b ≡ getD list i 0 → (pending′ bits′ : List ℕ) (u : Stage)
-      → Moves m k level (b ∷ []) pending bits r pending′ bits′ u × Stays m (b ∷ []) r u → Pushing m k level list pending₀ bits₀ s pending′ bits′ u (i + 1)
+      → Moves m k level (b ∷ []) pending bits r pending′ bits′ u
+      × Stays m (b ∷ []) r u → Pushing m k level list pending₀ bits₀ s pending′ bits′ u (i + 1)
   push-turn b h e pending′ bits′ u v =
       let tk : take i list ++ (b ∷ []) ≡ take (i + 1) list =
       ap (λ (x : ℕ). take i list ++ (x ∷ [])) e ∙ sym (ap (λ (x : ℕ). take x list) (add-one i) ∙ take-suc list i 0 h) in

@@ -34,7 +34,8 @@ onward-few S b n h =
 shifted-word : (l : List ℕ) (i s : ℕ) → s ≤ 64 → getD l i 0 < 2 ^ 64 → word (held l) (64 * i + s) (64 - s) ≡ getD l i 0 / 2 ^ s
 shifted-word l i s h f =
     let e : 64 ≡ 64 - s + s = omega arith in
-    digits-same (64 - s) (word (held l) (64 * i + s) (64 - s)) (getD l i 0 / 2 ^ s) (word-lt (held l) (64 * i + s) (64 - s)) (shr-lt (64 - s) s (subst (λ (x : ℕ). getD l i 0 < 2 ^ x) e f))
+    digits-same (64 - s) (word (held l) (64 * i + s) (64 - s)) (getD l i 0 / 2 ^ s) (word-lt (held l) (64 * i + s) (64 - s))
+    (shr-lt (64 - s) s (subst (λ (x : ℕ). getD l i 0 < 2 ^ x) e f))
     (λ j k.
     let p : 64 * i + s + j ≡ 64 * i + (s + j) = omega arith in
     digit-word (held l) (64 * i + s) (64 - s) j k
@@ -75,7 +76,8 @@ rises-once : (level limit a b : ℕ) → b ≡ min limit (a + level) → Rises l
 rises-once level limit a b e = (1, omega arith)
 
 -- a level below the next one is at or below the present one
-level-below : (level limit a b next : ℕ) → Rises level limit a b → next ≡ min limit (b + level) → (t : ℕ) → min limit (a + t * level) < next → min limit (a + t * level) ≤ b
+level-below : (level limit a b next : ℕ) → Rises level limit a b → next ≡ min limit (b + level) → (t : ℕ)
+    → min limit (a + t * level) < next → min limit (a + t * level) ≤ b
 level-below level limit a b next f e t h = go (decLt (f .0) t)
   where
     go : Dec (f .0 < t) → min limit (a + t * level) ≤ b
@@ -103,7 +105,8 @@ module _ {m k level : ℕ} {bits : List ℕ} {split up count : ℕ} (t : Settlin
   pub settle-room : 0 < count → up < 64 * k
   settle-room h = omega (arith, t .low, t .counts, onward-few (held bits) up (64 * k) (t .low))
 
-  pub settle-turn : m < count → (next : ℕ) {n : ℕ} → next ≡ min (64 * k) (up + level) → n ≡ heldFrom k bits next → Settling m k level bits split next n
+  pub settle-turn : m < count → (next : ℕ) {n : ℕ} → next ≡ min (64 * k) (up + level) → n ≡ heldFrom k bits next
+      → Settling m k level bits split next n
   settle-turn more next e c =
       record {
         rises = rises-trans level (64 * k) split up next (t .rises) (rises-once level (64 * k) up next e);
@@ -112,7 +115,8 @@ module _ {m k level : ℕ} {bits : List ℕ} {split up count : ℕ} (t : Settlin
         before = λ i l. go i (level-below level (64 * k) split up next (t .rises) e i l) (decLt (min (64 * k) (split + i * level)) up);
       }
     where
-      go : (i : ℕ) → min (64 * k) (split + i * level) ≤ up → Dec (min (64 * k) (split + i * level) < up) → m < heldFrom k bits (min (64 * k) (split + i * level))
+      go : (i : ℕ) → min (64 * k) (split + i * level) ≤ up → Dec (min (64 * k) (split + i * level) < up)
+          → m < heldFrom k bits (min (64 * k) (split + i * level))
       go i l (yes b) = t .before i b
       go i l (no b) =
           let v : up ≡ min (64 * k) (split + i * level) = omega arith in

@@ -52,7 +52,8 @@ module _ (n : ℕ) (first second : List ℕ) where
   second-decides t = after-taken (isKnown n ∷ tests) tests2 t ∙ sym (row-alone n second (row-taken n first t .0))
 
   -- both walks begin at the blocks that the first judge tells
-  pub both-walk : {j i : RowAnswer} {s s₂ : Sizes} {l l₂ : Layout} → j ≡ rowOf n first → j ≡ rows.Fits s l → i ≡ rowOf n second → i ≡ rows.Fits s₂ l₂
+  pub both-walk : {j i : RowAnswer} {s s₂ : Sizes} {l l₂ : Layout} → j ≡ rowOf n first → j ≡ rows.Fits s l → i ≡ rowOf n second
+      → i ≡ rows.Fits s₂ l₂
       → RowWalks l first 0 (s .blocks) × RowWalks l₂ second 0 (s .blocks)
   both-walk e q e₂ q₂ =
       let b = fits-blocks n first e q in
@@ -63,7 +64,8 @@ module _ (n mask size : ℕ) (first second : List ℕ) where
   rowsShown = orderTold (rowsOrder n mask size first second)
 
   -- what a judge refuses, the order does
-  pub judged-first : {j : RowAnswer} {x : Refusal} → j ≡ rowOf n first → j ≡ rows.Refused x → orders.Refused x ≡ judgedOf n mask size first second
+  pub judged-first : {j : RowAnswer} {x : Refusal} → j ≡ rowOf n first → j ≡ rows.Refused x
+      → orders.Refused x ≡ judgedOf n mask size first second
   unfolding judgedOf
   judged-first e q =
       let t = row-refused n first e q in
@@ -81,7 +83,8 @@ module _ (n mask size : ℕ) (first second : List ℕ) where
         (sym (order-self (W c) mask size (shownRow c first))
         ∙ ap (λ (x : List ℕ). orderOf (W c) mask size (shownRow c first) (shownRow c x)) h))
 
-    pub judged-second : {i : RowAnswer} {x : Refusal} → i ≡ rowOf n second → i ≡ rows.Refused x → orders.Refused x ≡ judgedOf n mask size first second
+    pub judged-second : {i : RowAnswer} {x : Refusal} → i ≡ rowOf n second → i ≡ rows.Refused x
+        → orders.Refused x ≡ judgedOf n mask size first second
     unfolding judgedOf
     judged-second e₂ q₂ =
         let t = row-refused n second e₂ q₂ in
@@ -95,7 +98,8 @@ module _ (n mask size : ℕ) (first second : List ℕ) where
           takes (λ x. orders.Refused x) rowsShown (second-decides n first second (row-told n first e q .0) ∙ row-told n second e₂ q₂ .0)
           (r
           ∙ ap orderTold
-          (order-same (64 * s .blocks) mask size (rowSet l first) (rowSet l₂ second) (shownRow (configAt n) first) (shownRow (configAt n) second)
+          (order-same (64 * s .blocks) mask size (rowSet l first) (rowSet l₂ second) (shownRow (configAt n) first)
+          (shownRow (configAt n) second)
           (λ p h. fits-shows n first e q p) (λ p h. fits-shows n second e₂ q₂ p)
           ∙ ap (λ (x : ℕ). orderOf x mask size (shownRow (configAt n) first) (shownRow (configAt n) second)) (fits-buckets n first e q)))
 
@@ -108,7 +112,8 @@ module _ (n mask size : ℕ) (first second : List ℕ) where
   abbrev rowTests : List Test
   rowTests = isRowOf (configAt n) first ++ isRowOf (configAt n) second
 
-  pub rows-unknown : {j : SizesAnswer} {x : Refusal} → j ≡ sizesOf n → j ≡ sizes.Refused x → orders.Refused x ≡ cmpRowsOf n mask size first second
+  pub rows-unknown : {j : SizesAnswer} {x : Refusal} → j ≡ sizesOf n → j ≡ sizes.Refused x
+      → orders.Refused x ≡ cmpRowsOf n mask size first second
   unfolding cmpRowsOf rowsVerdict
   rows-unknown {x = x} e q =
       let u = unknown-of n x (sym e ∙ q) in
@@ -133,7 +138,8 @@ module _ (n mask size : ℕ) (first second : List ℕ) where
         refuses (λ x. orders.Refused x) (rowsShown n mask size first second)
         (t .0, mask-decides mask size (isKnown n ∷ []) rowTests (known-taken n is-known) (t .1), t .2)
 
-    pub rows-done : i ≡ masks.Fits → {block : ℕ} → block ≡ blockAt (laid mask size) 0 → {r : OrderAnswer} → r ≡ judgedOf n block size first second
+    pub rows-done : i ≡ masks.Fits → {block : ℕ} → block ≡ blockAt (laid mask size) 0 → {r : OrderAnswer}
+        → r ≡ judgedOf n block size first second
         → r ≡ cmpRowsOf n mask size first second
     unfolding cmpRowsOf judgedOf rowsOrder
     rows-done f l r =

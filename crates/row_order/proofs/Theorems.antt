@@ -27,11 +27,13 @@ use Rattle.row_order.proofs.Asked.{known-taken}
 
 -- ---- two answers that one promise allows coincide
 
-pub cmp-rows-once : (n mask size : ℕ) (first second : List ℕ) (r t : OrderAnswer) → r ≡ cmpRowsOf n mask size first second → t ≡ cmpRowsOf n mask size first second
+pub cmp-rows-once : (n mask size : ℕ) (first second : List ℕ) (r t : OrderAnswer) → r ≡ cmpRowsOf n mask size first second
+    → t ≡ cmpRowsOf n mask size first second
     → r ≡ t
 cmp-rows-once n mask size first second r t x y = x ∙ sym y
 
-pub greater-once : (n mask size : ℕ) (first second r t : RefT (List ℕ)) → seen r ≡ greaterOf n mask size first second → seen t ≡ greaterOf n mask size first second
+pub greater-once : (n mask size : ℕ) (first second r t : RefT (List ℕ)) → seen r ≡ greaterOf n mask size first second
+    → seen t ≡ greaterOf n mask size first second
     → seen r ≡ seen t
 greater-once n mask size first second r t x y = x ∙ sym y
 
@@ -55,7 +57,8 @@ module _ (n mask size : ℕ) (first second : RefT (List ℕ)) where
       → greaterOf n mask size first second ≡ handed a (seen first) (seen second) (first .ptr, [])
   unfolding cmpRowsOf greaterOf
   by-order e =
-      handed-is (rowsVerdict n mask size (first .now) (second .now)) (rowsOrder n mask size (first .now) (second .now)) (seen first) (seen second) (first .ptr, [])
+      handed-is (rowsVerdict n mask size (first .now) (second .now)) (rowsOrder n mask size (first .now) (second .now))
+      (seen first) (seen second) (first .ptr, [])
       ∙ ap (λ (a : OrderAnswer). handed a (seen first) (seen second) (first .ptr, [])) e
 
   pub greater-less : cmpRowsOf n mask size (first .now) (second .now) ≡ orders.Less → greaterOf n mask size first second ≡ seen second
@@ -67,7 +70,8 @@ module _ (n mask size : ℕ) (first second : RefT (List ℕ)) where
   pub greater-greater : cmpRowsOf n mask size (first .now) (second .now) ≡ orders.Greater → greaterOf n mask size first second ≡ seen first
   greater-greater e = by-order e
 
-  pub greater-refused : {r : Refusal} → cmpRowsOf n mask size (first .now) (second .now) ≡ orders.Refused r → greaterOf n mask size first second ≡ (first .ptr, [])
+  pub greater-refused : {r : Refusal} → cmpRowsOf n mask size (first .now) (second .now) ≡ orders.Refused r
+      → greaterOf n mask size first second ≡ (first .ptr, [])
   greater-refused e = by-order e
 
 -- ---- the rows of sets
@@ -93,7 +97,8 @@ rows-of-sets n k mask size S T =
     (order-same (W c) mask size (shownRow c (row c S)) (shownRow c (row c T)) S T (row-back c s S) (row-back c s T))
 
 -- and so as the filters of the sets
-pub rows-as-filters : (f : Filter) (top bits : List ℕ) (g : Filter) (top2 bits2 : List ℕ) (S T : Set) → Of f top bits S → Of g top2 bits2 T → f .config ≡ g .config
+pub rows-as-filters : (f : Filter) (top bits : List ℕ) (g : Filter) (top2 bits2 : List ℕ) (S T : Set) → Of f top bits S
+    → Of g top2 bits2 T → f .config ≡ g .config
     → (mask size : ℕ) →
     let c = configAt (f .config) in
     cmpRowsOf (f .config) mask size (row c S) (row c T) ≡ cmpOf f top bits g top2 bits2 mask size

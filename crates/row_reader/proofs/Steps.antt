@@ -114,17 +114,22 @@ module _ (n : ℕ) (bs : List ℕ) where
   refused-place place k v = rw v
 
   -- before the end the next member is given
-  pub step-bucket : (place : ℕ) → rowVerdict n bs ≡ taken → place < length ms → steppedAt n bs place ≡ made (Bucket (getD ms place 0)) (suc place)
+  pub step-bucket : (place : ℕ) → rowVerdict n bs ≡ taken → place < length ms
+      → steppedAt n bs place ≡ made (Bucket (getD ms place 0)) (suc place)
   step-bucket place v h =
-      ap₂ made (taken-answer place v ∙ ap givenTold (given-bucket ms place h)) (taken-place place v ∙ place-moves (W (configAt n)) shownSet place h)
+      ap₂ made (taken-answer place v ∙ ap givenTold (given-bucket ms place h))
+      (taken-place place v ∙ place-moves (W (configAt n)) shownSet place h)
 
   pub step-end : (place : ℕ) → rowVerdict n bs ≡ taken → length ms ≤ place → steppedAt n bs place ≡ made End place
-  step-end place v h = ap₂ made (taken-answer place v ∙ ap givenTold (given-end ms place h)) (taken-place place v ∙ place-stays (W (configAt n)) shownSet place h)
+  step-end place v h =
+      ap₂ made (taken-answer place v ∙ ap givenTold (given-end ms place h))
+      (taken-place place v ∙ place-stays (W (configAt n)) shownSet place h)
 
   pub step-refused : (place k : ℕ) → rowVerdict n bs ≡ refused k → steppedAt n bs place ≡ made (Refused (refusal k)) place
   step-refused place k v = ap₂ made (refused-answer place k v) (refused-place place k v)
 
-  pub refuses : (place : ℕ) {j : RowAnswer} {r : Refusal} → j ≡ rowOf n bs → j ≡ rows.Refused r → made (Refused r) place ≡ steppedAt n bs place
+  pub refuses : (place : ℕ) {j : RowAnswer} {r : Refusal} → j ≡ rowOf n bs → j ≡ rows.Refused r
+      → made (Refused r) place ≡ steppedAt n bs place
   refuses place e q =
       let t = row-refused n bs e q in
       ap (λ (x : Refusal). made (Refused x) place) (t .2) ∙ sym (step-refused place (t .0) (t .1))
@@ -146,7 +151,8 @@ module _ (n : ℕ) (bs : List ℕ) where
         at = bucket-told ms place p (sym found ∙ h)
 
         pub bucket-fits : p < 2 ^ 32
-        bucket-fits = omega (arith, at .1, falls-at ms (W (configAt n)) place (members-fall shownSet (W (configAt n))) (at .0), line-at n .small)
+        bucket-fits =
+            omega (arith, at .1, falls-at ms (W (configAt n)) place (members-fall shownSet (W (configAt n))) (at .0), line-at n .small)
 
         pub place-fits : place + 1 < 2 ^ 64
         place-fits = omega (arith, at .0, members-length shownSet (W (configAt n)), line-at n .small)

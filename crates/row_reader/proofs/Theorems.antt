@@ -42,7 +42,8 @@ step-once d r t x y = x ∙ sym y
 -- ---- one step after the other
 
 -- the steps of a reader whose step makes this
-module _ (d : RowReader) (x : RowStep) (place : ℕ) (e : steppedAt (d .config) (now (d .row)) (d .place) ≡ record { answer = x; place = place }) where
+module _ (d : RowReader) (x : RowStep) (place : ℕ)
+    (e : steppedAt (d .config) (now (d .row)) (d .place) ≡ record { answer = x; place = place }) where
   steps-next : (j : ℕ) → steps (suc j) d ≡ x ∷ steps j (readerAt d place)
   steps-next j = ap (λ (s : Stepped). s .answer ∷ steps j (readerAt d (s .place))) e
 
@@ -92,7 +93,8 @@ module _ (d : RowReader) (v : rowVerdict (d .config) (now (d .row)) ≡ taken) w
 
   -- the answers from a place on: the members that are left, then the end for ever
   from-place : (qs : List ℕ) (p : ℕ) → drop p ms ≡ qs → (j : ℕ) → steps (length qs + j) (readerAt d p) ≡ map Bucket qs ++ replicate j End
-  from-place [] p e j = ap (λ (i : ℕ). steps i (readerAt d p)) (zero-add j) ∙ steps-stay (readerAt d p) End (from-end p (past (decLt p (length ms)))) j
+  from-place [] p e j =
+      ap (λ (i : ℕ). steps i (readerAt d p)) (zero-add j) ∙ steps-stay (readerAt d p) End (from-end p (past (decLt p (length ms)))) j
     where
       past : Dec (p < length ms) → length ms ≤ p
       past (yes h) =
@@ -125,7 +127,8 @@ module _ (d : RowReader) (v : rowVerdict (d .config) (now (d .row)) ≡ taken) w
       go : ((p : ℕ) → p ≤ length ms → afterSteps j (readerAt d p) ≡ readerAt d (min (p + j) (length ms)))
           → Dec (p < length ms) → afterSteps (suc j) (readerAt d p) ≡ readerAt d (min (p + suc j) (length ms))
       go f (yes l) =
-          after-next (readerAt d p) (Bucket (getD ms p 0)) (suc p) (before-end p l) j ∙ f (suc p) l ∙ ap (λ (i : ℕ). readerAt d (min i (length ms))) (omega arith)
+          after-next (readerAt d p) (Bucket (getD ms p 0)) (suc p) (before-end p l) j ∙ f (suc p) l
+          ∙ ap (λ (i : ℕ). readerAt d (min i (length ms))) (omega arith)
       go f (no l) =
           after-stay (readerAt d p) End (from-end p (omega arith)) (suc j)
           ∙ ap (readerAt d)
@@ -140,7 +143,8 @@ module _ (d : RowReader) (v : rowVerdict (d .config) (now (d .row)) ≡ taken) w
     -- and the place is the number of buckets given
     pub place-counts : (j : ℕ) → afterSteps j d ≡ readerAt d (min j (length ms))
     place-counts j =
-        ap (λ (p : ℕ). afterSteps j (readerAt d p)) z ∙ place-from j 0 (omega arith) ∙ ap (λ (i : ℕ). readerAt d (min i (length ms))) (zero-add j)
+        ap (λ (p : ℕ). afterSteps j (readerAt d p)) z ∙ place-from j 0 (omega arith)
+        ∙ ap (λ (i : ℕ). readerAt d (min i (length ms))) (zero-add j)
 
 -- a set's own row gives the set's members
 module _ (n : ℕ) (S : Set) where
@@ -151,7 +155,9 @@ module _ (n : ℕ) (S : Set) where
   own-buckets = members-same (shownRow (configAt n) (row (configAt n) S)) S (W (configAt n)) (row-back (configAt n) (line-at n .sound) S)
 
 pub gives-set : (d : RowReader) (S : Set) → known (d .config) ≡ true → now (d .row) ≡ row (configAt (d .config)) S → d .place ≡ 0
-    → (j : ℕ) → steps (length (members S (W (configAt (d .config)))) + j) d ≡ map Bucket (members S (W (configAt (d .config)))) ++ replicate j End
+    → (j : ℕ) → steps (length (members S (W (configAt (d .config)))) + j) d
+    ≡ map Bucket (members S (W (configAt (d .config)))) ++ replicate j End
 gives-set d S k e z j =
-    subst (λ (l : List ℕ). steps (length l + j) d ≡ map Bucket l ++ replicate j End) (ap (bucketsOf (d .config)) e ∙ own-buckets (d .config) S)
+    subst (λ (l : List ℕ). steps (length l + j) d ≡ map Bucket l ++ replicate j End)
+    (ap (bucketsOf (d .config)) e ∙ own-buckets (d .config) S)
     (gives-all d (ap (rowVerdict (d .config)) e ∙ own-taken (d .config) S k) z j)

@@ -28,11 +28,14 @@ use Rattle.bitchunks.specs.declared.Layout.{Layout}
 use Rattle.rows.specs.Inner.{Readable, setIn}
 
 -- an entry fits a cell of the top area
-pub entry-small : {w : ℕ} → (w ≡ 2) ⊎ (w ≡ 4) → (row : List ℕ) → Bytes row → (at : ℕ) {v : ℕ} → v ≡ little (take w (drop at row)) → v < 2 ^ 32
+pub entry-small : {w : ℕ} → (w ≡ 2) ⊎ (w ≡ 4) → (row : List ℕ) → Bytes row → (at : ℕ) {v : ℕ} → v ≡ little (take w (drop at row))
+    → v < 2 ^ 32
 entry-small {w} width row b at {v} e =
     let bs : List ℕ = take w (drop at row) in
-    let l : 8 * length bs ≤ 32 = omega (arith, length-take w (drop at row), ⊎-elim {C = w ≤ 4} (λ x. omega arith) (λ x. omega arith) width) in
-    subst (λ (x : ℕ). x < 2 ^ 32) (sym e) (lt-of-lt-of-le (little-lt bs (below-take w (drop at row) 256 (below-drop at row 256 b))) (pow-mono l))
+    let l : 8 * length bs ≤ 32 =
+    omega (arith, length-take w (drop at row), ⊎-elim {C = w ≤ 4} (λ x. omega arith) (λ x. omega arith) width) in
+    subst (λ (x : ℕ). x < 2 ^ 32) (sym e)
+    (lt-of-lt-of-le (little-lt bs (below-take w (drop at row) 256 (below-drop at row 256 b))) (pow-mono l))
 
 -- ---- cells, and zeros behind them up to the cell b
 
@@ -42,7 +45,8 @@ record Padded (cells : List ℕ) (n b : ℕ) (old now : List ℕ) : Type 0 where
   pub room : b ≤ length now
   pub rest : drop b now ≡ drop b old
 
-padded : (cells : List ℕ) {n b : ℕ} {old now : List ℕ} → length cells ≡ n → n ≤ b → b ≤ length old → now ≡ zeroed n b (filled cells n old) → Padded cells n b old now
+padded : (cells : List ℕ) {n b : ℕ} {old now : List ℕ} → length cells ≡ n → n ≤ b → b ≤ length old
+    → now ≡ zeroed n b (filled cells n old) → Padded cells n b old now
 padded cells {n} {b} {old} e h l q = subst (Padded cells n b old) (sym q) go
   where
     all : List ℕ
@@ -126,12 +130,15 @@ module _ {s : Layout} {m k : ℕ} {row top₀ blocks₀ : List ℕ} (room : Room
         shows : Agree (64 * k) (shown top bits (s .count) edge) (setIn s m row)
         shows p h =
             ap₂ (λ (l : List ℕ) (x : ℕ). joined l x (held bits) p) (top-is .first) edge-is
-            ∙ ap (_||_ (among tops p)) (below-same (edgeIn s m row) (held bits) (held (blocks s row)) (λ q l. padded-held bits-are q (omega (arith, edge-low R))) p)
+            ∙ ap (_||_ (among tops p)) (below-same (edgeIn s m row) (held bits) (held (blocks s row))
+            (λ q l. padded-held bits-are q (omega (arith, edge-low R))) p)
 
         pub fill-becomes : ((i : ℕ) → getD bits i 0 < 2 ^ 64) → Becomes m k (setIn s m row) top₀ blocks₀ top bits (s .count) edge
         fill-becomes fit =
             record {
-              holds = holds-same m k (shown top bits (s .count) edge) (setIn s m row) shows (canon-holds (room .some) (top-is .room) canon (bits-are .room) fit);
+              holds =
+                  holds-same m k (shown top bits (s .count) edge) (setIn s m row) shows
+                  (canon-holds (room .some) (top-is .room) canon (bits-are .room) fit);
               topRest = top-is .rest;
               bitRest = bits-are .rest;
             }

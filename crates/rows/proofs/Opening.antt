@@ -91,7 +91,8 @@ module _ (n : ℕ) (bs top bits : List ℕ) {j : SizesAnswer} (f : j ≡ areasOf
             subst₂ (λ (x : Sizes) (y : Layout). Readable y (x .top) (x .blocks) bs) (sym (told .1)) (sym (r .2)) (readable n bs (r .0)),
           )
 
-      pub read-ready : {top′ bits′ : List ℕ} {count edge : ℕ} → Becomes (s .top) (s .blocks) (setIn l (s .top) bs) top bits top′ bits′ count edge
+      pub read-ready : {top′ bits′ : List ℕ} {count edge : ℕ}
+          → Becomes (s .top) (s .blocks) (setIn l (s .top) bs) top bits top′ bits′ count edge
           → Reads n bs top bits (Ready (record { config = n; count = count; boundary = edge })) top′ bits′
       read-ready {top′} {bits′} {count} {edge} B =
           let r = row-told n bs g w in

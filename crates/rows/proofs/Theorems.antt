@@ -42,10 +42,12 @@ use Rattle.rows.specs.declared.OpenAnswer.the-variants as opens
 
 -- ---- two outcomes that a promise allows coincide
 
-pub write-once : (f : Filter) (top bits to : List ℕ) {r r′ : WriteAnswer} {b b′ : List ℕ} → Writes f top bits to r b → Writes f top bits to r′ b′ → (r ≡ r′) × (b ≡ b′)
+pub write-once : (f : Filter) (top bits to : List ℕ) {r r′ : WriteAnswer} {b b′ : List ℕ} → Writes f top bits to r b
+    → Writes f top bits to r′ b′ → (r ≡ r′) × (b ≡ b′)
 write-once f top bits to x y = (x .answers ∙ sym (y .answers), x .bytes ∙ sym (y .bytes))
 
-pub read-once : (n : ℕ) (bs top bits : List ℕ) {r r′ : Made} {t t′ b b′ : List ℕ} → Reads n bs top bits r t b → Reads n bs top bits r′ t′ b′ → (r ≡ r′) × (t ≡ t′) × (b ≡ b′)
+pub read-once : (n : ℕ) (bs top bits : List ℕ) {r r′ : Made} {t t′ b b′ : List ℕ} → Reads n bs top bits r t b
+    → Reads n bs top bits r′ t′ b′ → (r ≡ r′) × (t ≡ t′) × (b ≡ b′)
 read-once n bs top bits x y = makes-once x y
 
 pub open-once : (n : ℕ) (bs : List ℕ) (r t : OpenAnswer) → r ≡ openOf n bs → t ≡ openOf n bs → r ≡ t
@@ -76,7 +78,8 @@ module _ (f : Filter) (top bits : List ℕ) (S : Set) (o : Of f top bits S) wher
 
 -- ---- what was written is a set's row
 
-wrote : (v : Verdict) (x len : ℕ) → writes.Written len ≡ answer v (λ n. writes.Refused (refusal n)) (writes.Written x) → (v ≡ taken) × (len ≡ x)
+wrote : (v : Verdict) (x len : ℕ) → writes.Written len ≡ answer v (λ n. writes.Refused (refusal n)) (writes.Written x)
+    → (v ≡ taken) × (len ≡ x)
 wrote taken x len e = (refl, (cc))
 wrote (refused k) x len e =
     let z : _≡_ {A = ℕ} 0 1 = cc in
@@ -92,7 +95,8 @@ module _ (f : Filter) (top bits to : List ℕ) {len : ℕ} {to′ : List ℕ} (w
   written-of : Of f top bits shown
   unfolding writeVerdict sizesAt
   written-of =
-      let P = filter-pass (f .config) (tallyOf f) top bits (all-pass (filterLent (recordIn f) top bits) (holdsRow (rowBy f top bits) to ∷ []) (told .0) .0) in
+      let P = filter-pass (f .config) (tallyOf f) top bits
+      (all-pass (filterLent (recordIn f) top bits) (holdsRow (rowBy f top bits) to ∷ []) (told .0) .0) in
       let c : Config = configAt (f .config) in
       record {
         known = P .known;
@@ -102,7 +106,8 @@ module _ (f : Filter) (top bits to : List ℕ) {len : ℕ} {to′ : List ℕ} (w
 
   bytes-written : take len to′ ≡ row (configAt (f .config)) shown
   unfolding rowBy
-  bytes-written = ap (take len) (w .bytes ∙ rw (told .0)) ∙ take-at (rowBy f top bits) (drop (length (rowBy f top bits)) to) len (sym (told .1))
+  bytes-written =
+      ap (take len) (w .bytes ∙ rw (told .0)) ∙ take-at (rowBy f top bits) (drop (length (rowBy f top bits)) to) len (sym (told .1))
 
 -- ---- reading the row of a set
 
@@ -111,20 +116,24 @@ module _ (n : ℕ) (k : known n ≡ true) where
   c = configAt n
 
   -- where the slices have room, the row decides
-  lent-then : (top bits : List ℕ) → Lent n top bits → (ts : List Test) → firstFailing (areasLent n (length top) (length bits) ++ ts) ≡ firstFailing ts
+  lent-then : (top bits : List ℕ) → Lent n top bits → (ts : List Test)
+      → firstFailing (areasLent n (length top) (length bits) ++ ts) ≡ firstFailing ts
   lent-then top bits L ts = after-taken (areasLent n (length top) (length bits)) ts (rw (k, le-leb _ _ (L .tops), le-leb _ _ (L .blocks)))
 
   -- it leaves the filter of S
-  pub read-set : (S : Set) (top bits : List ℕ) {r : Made} {t b : List ℕ} → Lent n top bits → Reads n (row c S) top bits r t b → InPlace n S top bits r t b
+  pub read-set : (S : Set) (top bits : List ℕ) {r : Made} {t b : List ℕ} → Lent n top bits → Reads n (row c S) top bits r t b
+      → InPlace n S top bits r t b
   unfolding readVerdict
   read-set S top bits L R =
       settled n k (readVerdict n (row c S) top bits) (shownRow c (row c S)) S top bits top bits
-      (lent-then top bits L (isRowOf c (row c S)) ∙ verdict-row c (row c S) .1 (row-passes c (line-at n .sound) S)) (row-back c (line-at n .sound) S) refl refl R
+      (lent-then top bits L (isRowOf c (row c S)) ∙ verdict-row c (row c S) .1 (row-passes c (line-at n .sound) S))
+      (row-back c (line-at n .sound) S) refl refl R
 
 -- Writing and then reading gives the same record and areas, wherever they are read to.
 pub write-read : (f : Filter) (top bits to : List ℕ) {len : ℕ} {to′ : List ℕ} → Writes f top bits to (writes.Written len) to′
     → (top2 bits2 : List ℕ) {r : Made} {t b : List ℕ} → Lent (f .config) top2 bits2 → Reads (f .config) (take len to′) top2 bits2 r t b
-    → (r ≡ made.Ready f) × (take (configAt (f .config) .M) t ≡ take (configAt (f .config) .M) top) × (take (blocks (configAt (f .config))) b ≡ take (blocks (configAt (f .config))) bits)
+    → (r ≡ made.Ready f) × (take (configAt (f .config) .M) t ≡ take (configAt (f .config) .M) top)
+    × (take (blocks (configAt (f .config))) b ≡ take (blocks (configAt (f .config))) bits)
 write-read f top bits to {len} {to′} w top2 bits2 {r} {t} {b} L R =
     let n : ℕ = f .config in
     let c : Config = configAt n in
@@ -146,7 +155,8 @@ ready (refused k) x f e =
     absurd (omega arith)
 
 -- what passing tells
-read-passes : (n : ℕ) (bs top bits : List ℕ) → readVerdict n bs top bits ≡ taken → (known n ≡ true) × Lent n top bits × (isRow (configAt n) bs ≡ true)
+read-passes : (n : ℕ) (bs top bits : List ℕ) → readVerdict n bs top bits ≡ taken
+    → (known n ≡ true) × Lent n top bits × (isRow (configAt n) bs ≡ true)
 unfolding readVerdict sizesAt
 read-passes n bs top bits v =
     let p = all-pass (areasLent n (length top) (length bits)) (isRowOf (configAt n) bs) v in
@@ -156,7 +166,8 @@ read-passes n bs top bits v =
 
 -- Reading and then writing gives the same bytes, wherever they are written to.
 pub read-write : (n : ℕ) (bs top bits : List ℕ) → Bytes bs → {f : Filter} {t b : List ℕ} → Reads n bs top bits (made.Ready f) t b
-    → (to : List ℕ) {r : WriteAnswer} {to′ : List ℕ} → length bs ≤ length to → Writes f t b to r to′ → (r ≡ writes.Written (length bs)) × (to′ ≡ filled bs (length bs) to)
+    → (to : List ℕ) {r : WriteAnswer} {to′ : List ℕ} → length bs ≤ length to → Writes f t b to r to′
+    → (r ≡ writes.Written (length bs)) × (to′ ≡ filled bs (length bs) to)
 unfolding recordOf
 read-write n bs top bits d {f} {t} {b} R to {r} {to′} l w =
     let c : Config = configAt n in
@@ -167,8 +178,10 @@ read-write n bs top bits d {f} {t} {b} R to {r} {to′} l w =
     let x : Writes g (topSlice c S top) (bitSlice c S bits) to r to′ =
     subst (λ (h : Filter). Writes h (topSlice c S top) (bitSlice c S bits) to r to′) (v .1)
     (subst₂ (λ (y z : List ℕ). Writes f y z to r to′) (R .tops ∙ rw (v .0)) (R .blocks ∙ rw (v .0)) w) in
-    let e : row (configAt (c .number)) S ≡ bs = ap (λ (i : ℕ). row (configAt i) S) (number-at n (p .0)) ∙ passed-row c (line-at n .sound) bs d (p .2) in
-    let q = write-set g (topSlice c S top) (bitSlice c S bits) S (of-set n (p .0) S top bits) to (subst (λ (y : List ℕ). length y ≤ length to) (sym e) l) x in
+    let e : row (configAt (c .number)) S ≡ bs =
+    ap (λ (i : ℕ). row (configAt i) S) (number-at n (p .0)) ∙ passed-row c (line-at n .sound) bs d (p .2) in
+    let q = write-set g (topSlice c S top) (bitSlice c S bits) S (of-set n (p .0) S top bits) to
+    (subst (λ (y : List ℕ). length y ≤ length to) (sym e) l) x in
     (q .0 ∙ ap (λ (y : List ℕ). writes.Written (length y)) e, q .1 ∙ ap (λ (y : List ℕ). filled y (length y) to) e)
 
 -- ---- which rows are accepted
@@ -213,7 +226,8 @@ read-iff n bs top bits d R =
           let p = read-passes n bs top bits (ready v f (e .0) (sym (e .1) ∙ R .answers) .0) in
           (p .0, p .1, row-iff c (line-at n .sound) bs d .0 (p .2)),
       λ x.
-          let t : v ≡ taken = lent-then n (x .0) top bits (x .1) (isRowOf c bs) ∙ verdict-row c bs .1 (row-iff c (line-at n .sound) bs d .1 (x .2)) in
+          let t : v ≡ taken =
+          lent-then n (x .0) top bits (x .1) (isRowOf c bs) ∙ verdict-row c bs .1 (row-iff c (line-at n .sound) bs d .1 (x .2)) in
           (f, R .answers ∙ rw t),
     )
 

@@ -58,7 +58,8 @@ module _ (f : Filter) (top bits : List ℕ) (s : Sizes) where
       let O = one f top bits s e q in
       let F = O .fits in
       let H = F .holds in
-      let z : s .entry ≡ configAt (f .config) .entry = ap (λ (x : Sizes). x .entry) (filter-told (f .config) (tallyOf f) top bits s (sym e ∙ q) .1) in
+      let z : s .entry ≡ configAt (f .config) .entry =
+      ap (λ (x : Sizes). x .entry) (filter-told (f .config) (tallyOf f) top bits s (sym e ∙ q) .1) in
       let t : s .top * s .entry ≡ topBytes (configAt (f .config)) = ap₂ _*_ (O .sizes .tops) z in
       record {
         told = O;
@@ -104,7 +105,8 @@ module _ {f : Filter} {top bits : List ℕ} {s : Sizes} (R : Writable f top bits
   unfolding rowBy row
   row-is =
       let S = shownBy f top bits in
-      ap₂ _++_ (ap₂ bytesOf (sym (R .entryIs)) tops-are) (ap (λ (e : ℕ). bitPart e S) edge-is ∙ bitPart-same (f .boundary) S (held bits) bits-agree)
+      ap₂ _++_ (ap₂ bytesOf (sym (R .entryIs)) tops-are)
+      (ap (λ (e : ℕ). bitPart e S) edge-is ∙ bitPart-same (f .boundary) S (held bits) bits-agree)
 
   entries-length : length entryBytes ≡ f .count * s .entry
   entries-length = length-bytesOf (s .entry) (take (f .count) top) ∙ ap (λ (x : ℕ). x * s .entry) (length-take-le (f .count) top (R .cells))
@@ -137,7 +139,8 @@ module _ (f : Filter) (top bits to : List ℕ) where
   abbrev leftBy : Verdict → List ℕ
   leftBy v = answer v (λ n. to) (filled (rowBy f top bits) (length (rowBy f top bits)) to)
 
-  not-written : {x : Refusal} → ((k : ℕ) × (writeVerdict f top bits to ≡ refused k) × (x ≡ refusal k)) → Writes f top bits to (writes.Refused x) to
+  not-written : {x : Refusal} → ((k : ℕ) × (writeVerdict f top bits to ≡ refused k) × (x ≡ refusal k))
+      → Writes f top bits to (writes.Refused x) to
   not-written w =
       record {
         answers = refuses (λ x. writes.Refused x) _ w;
@@ -145,11 +148,13 @@ module _ (f : Filter) (top bits to : List ℕ) where
       }
 
   -- what the judge refuses, the call does
-  pub write-refused : {x : Refusal} → ((k : ℕ) × (firstFailing lent ≡ refused k) × (x ≡ refusal k)) → Writes f top bits to (writes.Refused x) to
+  pub write-refused : {x : Refusal} → ((k : ℕ) × (firstFailing lent ≡ refused k) × (x ≡ refusal k))
+      → Writes f top bits to (writes.Refused x) to
   unfolding writeVerdict
   write-refused w = not-written (w .0, after-refused lent buffer (w .1), w .2)
 
-  module _ {s : Sizes} (R : Writable f top bits s) {len : ℕ} (e : len ≡ f .count * s .entry + cond (eqb (f .boundary) 0) 0 (1 + 8 * blocksFor (f .boundary))) where
+  module _ {s : Sizes} (R : Writable f top bits s) {len : ℕ}
+      (e : len ≡ f .count * s .entry + cond (eqb (f .boundary) 0) 0 (1 + 8 * blocksFor (f .boundary))) where
     len-is : len ≡ length (rowBy f top bits)
     len-is = omega (arith, e, row-long R, length-bitPart (f .boundary) (held bits))
 
@@ -163,7 +168,8 @@ module _ (f : Filter) (top bits to : List ℕ) where
         let l : length to < length (rowBy f top bits) = omega (arith, len-is) in
         not-written (3, by-buffer ∙ ap (λ (b : Bool). cond b taken (refused 3)) (lt-leb _ _ l), refl)
 
-    pub write-done : {r : ℕ} {to₁ to₂ : List ℕ} → len ≤ length to → to₁ ≡ sets to 0 (entryBytes R) → r ≡ f .count * s .entry + length (part R)
+    pub write-done : {r : ℕ} {to₁ to₂ : List ℕ} → len ≤ length to → to₁ ≡ sets to 0 (entryBytes R)
+        → r ≡ f .count * s .entry + length (part R)
         → to₂ ≡ sets to₁ (f .count * s .entry) (part R) → Writes f top bits to (writes.Written r) to₂
     write-done {r} {to₁} {to₂} h x y z =
         let row = rowBy f top bits in

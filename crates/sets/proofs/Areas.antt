@@ -9,7 +9,8 @@ use lib.ListN.{take, drop}
 use lib.Seq.{drop-at, take-all, take-at}
 use Rattle.sets.specs.Sets.{Agree, Set, below}
 use Rattle.sets.specs.Configurations.{Config, W, blocks, Sound}
-use Rattle.sets.specs.Filter.{topCount, boundary, topCells, bitCells, Holds, shown, isFilter, FilterRecord, recordOf, topArea, bitArea, topSlice, bitSlice}
+use Rattle.sets.specs.Filter.{topCount, boundary, topCells, bitCells, Holds, shown, isFilter, FilterRecord, recordOf, topArea}
+use Rattle.sets.specs.Filter.{bitArea, topSlice, bitSlice}
 use Rattle.sets.proofs.Configurations.{whole-blocks}
 use Rattle.sets.proofs.Filters.{holds-same, length-top, length-bits}
 use Rattle.sets.proofs.Laws.{below-out}
@@ -22,7 +23,8 @@ pub record Stands (c : Config) (r : FilterRecord) (top bits : List ℕ) (S : Set
   pub bitsAre : take (blocks c) bits ≡ bitArea c S
 
 module _ (c : Config) (s : Sound c) where
-  pub stands-holds : {r : FilterRecord} {top bits : List ℕ} {S : Set} → Stands c r top bits S → Holds (c .M) (blocks c) top bits (r .count) (r .boundary) S
+  pub stands-holds : {r : FilterRecord} {top bits : List ℕ} {S : Set} → Stands c r top bits S
+      → Holds (c .M) (blocks c) top bits (r .count) (r .boundary) S
   unfolding recordOf
   stands-holds {S = S} H =
       let e : W c ≡ 64 * blocks c = sym (whole-blocks c s) in
@@ -47,7 +49,8 @@ module _ (c : Config) (s : Sound c) where
       }
 
   -- a filter gives its set back
-  pub shown-back : (r : FilterRecord) (top bits : List ℕ) (S : Set) → Stands c r top bits S → Agree (W c) (shown top bits (r .count) (r .boundary)) S
+  pub shown-back : (r : FilterRecord) (top bits : List ℕ) (S : Set) → Stands c r top bits S
+      → Agree (W c) (shown top bits (r .count) (r .boundary)) S
   shown-back r top bits S H p h = shown-set (stands-holds H) (s .some) p (omega (arith, whole-blocks c s))
 
   -- so two sets of buckets never share record and areas
@@ -72,7 +75,8 @@ module _ (c : Config) (s : Sound c) where
 
   -- The test passes exactly where some set of buckets has record and areas.
   pub filter-exactly : (r : FilterRecord) (top bits : List ℕ) → r .config ≡ c .number
-      → (isFilter (c .M) (blocks c) top bits (r .count) (r .boundary) ≡ true) ↔ ((S : Set) × ((p : ℕ) → W c ≤ p → S p ≡ false) × Stands c r top bits S)
+      → (isFilter (c .M) (blocks c) top bits (r .count) (r .boundary) ≡ true) ↔
+      ((S : Set) × ((p : ℕ) → W c ≤ p → S p ≡ false) × Stands c r top bits S)
   filter-exactly r top bits k = (
     λ h. (
       below (64 * blocks c) (shown top bits (r .count) (r .boundary)),
@@ -85,7 +89,8 @@ module _ (c : Config) (s : Sound c) where
   -- ---- slices lent for the areas
 
   -- record and areas of sets that agree are the same
-  pub filter-agree : (S T : Set) → Agree (W c) S T → (recordOf c S ≡ recordOf c T) × (topArea c S ≡ topArea c T) × (bitArea c S ≡ bitArea c T)
+  pub filter-agree : (S T : Set) → Agree (W c) S T
+      → (recordOf c S ≡ recordOf c T) × (topArea c S ≡ topArea c T) × (bitArea c S ≡ bitArea c T)
   filter-agree S T h =
       let H = filter-same S T h (stands-self S) in (
         H .recordIs,
@@ -106,4 +111,6 @@ module _ (c : Config) (s : Sound c) where
   top-again S T top = ap (λ (l : List ℕ). topArea c T ++ l) (drop-at (topArea c S) (drop (c .M) top) (c .M) (length-top (c .M) (W c) S))
 
   pub bits-again : (S T : Set) (bits : List ℕ) → bitSlice c T (bitSlice c S bits) ≡ bitSlice c T bits
-  bits-again S T bits = ap (λ (l : List ℕ). bitArea c T ++ l) (drop-at (bitArea c S) (drop (blocks c) bits) (blocks c) (length-bits (c .M) (W c) (blocks c) S))
+  bits-again S T bits =
+      ap (λ (l : List ℕ). bitArea c T ++ l) (drop-at (bitArea c S) (drop (blocks c) bits) (blocks c)
+      (length-bits (c .M) (W c) (blocks c) S))

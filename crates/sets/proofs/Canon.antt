@@ -58,7 +58,8 @@ module _ {m k : ℕ} {top blocks : List ℕ} {count edge : ℕ} (z : 0 < m) (n :
             ∙ ap (λ (x : ℕ). tabulate k (blockAt (below x S))) e;
       }
 
-pub holds-canon : {m k : ℕ} {top blocks : List ℕ} {count edge : ℕ} {S : Set} → 0 < m → Holds m k top blocks count edge S → Canon m k top blocks count edge
+pub holds-canon : {m k : ℕ} {top blocks : List ℕ} {count edge : ℕ} {S : Set} → 0 < m → Holds m k top blocks count edge S
+    → Canon m k top blocks count edge
 holds-canon {m} {k} {top} {blocks} {count} {edge} {S} z H =
     record {
       few = omega (arith, H .countIs);
@@ -70,7 +71,8 @@ holds-canon {m} {k} {top} {blocks} {count} {edge} {S} z H =
 
 -- so a judge that finds it answers `isFilter`
 module _ {m k : ℕ} {top blocks : List ℕ} {count edge : ℕ} (z : 0 < m) where
-  pub canon-yes : m ≤ length top → k ≤ length blocks → ((i : ℕ) → getD blocks i 0 < 2 ^ 64) → Canon m k top blocks count edge → isFilter m k top blocks count edge ≡ true
+  pub canon-yes : m ≤ length top → k ≤ length blocks → ((i : ℕ) → getD blocks i 0 < 2 ^ 64) → Canon m k top blocks count edge
+      → isFilter m k top blocks count edge ≡ true
   canon-yes n nb fit C = holds-filter m k top blocks count edge (shown top blocks count edge) z (canon-holds z n C nb fit)
 
   pub canon-no : (Canon m k top blocks count edge → ⊥) → isFilter m k top blocks count edge ≡ false

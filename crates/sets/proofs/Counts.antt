@@ -10,7 +10,8 @@ use lib.ListN.{length, getD, take, length-drop, List·getD-eq-default}
 use lib.Seq.{getD-take, take-all}
 use Rattle.sets.specs.Sets.{Agree, Set, below, onward, members}
 use Rattle.sets.specs.Filter.{topCount, boundary, exactCount, lastEntry, low, limitedCount, limitedBound}
-use Rattle.sets.proofs.Laws.{members-same, members-gap, members-none, members-fall, below-in, below-out, onward-in, onward-out, falls-at}
+use Rattle.sets.proofs.Laws.{members-same, members-gap, members-none, members-fall, below-in, below-out, onward-in, onward-out}
+use Rattle.sets.proofs.Laws.{falls-at}
 use Rattle.sets.proofs.Filters.{members-drop, drop-edge}
 
 -- ---- at or above, and below
@@ -68,7 +69,8 @@ module _ (m n : ℕ) (S : Set) (z : 0 < m) where
   few-rest : length (members S n) < m → length (members S (lastEntry m n S)) ≡ 0
   few-rest f =
       let k : ℕ = length (members S n) - 1 in
-      ap (λ (x : ℕ). length (members S x)) (few-last f) ∙ ap length (sym (members-drop S k n)) ∙ length-drop (suc k) (members S n) ∙ omega arith
+      ap (λ (x : ℕ). length (members S x)) (few-last f) ∙ ap length (sym (members-drop S k n)) ∙ length-drop (suc k) (members S n)
+      ∙ omega arith
 
   few-edge : length (members S n) < m → boundary m n S ≡ 0
   few-edge f = List·getD-eq-default (members S n) 0 {n = m - 1} (omega arith)
@@ -105,7 +107,8 @@ module _ (m n : ℕ) (S : Set) (z : 0 < m) where
             → topCount m n S + length (members (onward start (below edge S)) n) + length (members S start) ≡ length (members S n)
         go (yes f) =
             let none : members (onward start (below edge S)) n ≡ [] =
-            members-none (onward start (below edge S)) n (λ p h. ap (_&&_ (leb start p)) (below-out edge S p (omega (arith, few-edge f))) ∙ and-false (leb start p)) in
+            members-none (onward start (below edge S)) n (λ p h. ap (_&&_ (leb start p))
+            (below-out edge S p (omega (arith, few-edge f))) ∙ and-false (leb start p)) in
             omega (arith, ap length none, members-onward S start (lastEntry m n S) low-last, few-rest f)
         go (no f) =
             let e : lastEntry m n S ≡ edge = full-last (omega arith) in
@@ -166,7 +169,8 @@ module _ (m n : ℕ) (S R : Set) (z : 0 < m) (h : Agree n S R) where
     limited-same =
         limited-is m n S z window w
         ∙ ap (λ (x : ℕ). length (members (onward (64 * x) S) n)) (same-low window)
-        ∙ ap length (members-same (onward (64 * low m n window R) S) (onward (64 * low m n window R) R) n (λ p l. ap (_&&_ (leb (64 * low m n window R) p)) (h p l)))
+        ∙ ap length (members-same (onward (64 * low m n window R) S) (onward (64 * low m n window R) R) n
+        (λ p l. ap (_&&_ (leb (64 * low m n window R) p)) (h p l)))
         ∙ sym (limited-is m n R z window w)
 
     pub bound-same : limitedBound m n window S ≡ limitedBound m n window R

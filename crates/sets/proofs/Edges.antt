@@ -18,7 +18,8 @@ use Rattle.sets.specs.Row.{
   spareFault,
   highFault,
 }
-use Rattle.sets.specs.Text.{configLine, maskLine, rowLine, overlap, compared, judgedSecond, judgedRows, judgedMasked, judgedInput, compareText}
+use Rattle.sets.specs.Text.{configLine, maskLine, rowLine, overlap, compared, judgedSecond, judgedRows, judgedMasked, judgedInput}
+use Rattle.sets.specs.Text.{compareText}
 use Rattle.sets.specs.Edges.{down, holds, each, figures, cases, traps}
 
 pub figures-hold : T (each figures)

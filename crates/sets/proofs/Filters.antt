@@ -26,12 +26,14 @@ unfolding members Shape
 shape S zero = inl refl
 shape S (suc n) = go (S n) (shape S n)
   where
-    more : (l : List ℕ) → (l ≡ []) ⊎ ((x : ℕ) × (x < n) × (l ≡ x ∷ members S x)) → (l ≡ []) ⊎ ((x : ℕ) × (x < suc n) × (l ≡ x ∷ members S x))
+    more : (l : List ℕ) → (l ≡ []) ⊎ ((x : ℕ) × (x < n) × (l ≡ x ∷ members S x))
+        → (l ≡ []) ⊎ ((x : ℕ) × (x < suc n) × (l ≡ x ∷ members S x))
     more l (inl e) = inl e
     more l (inr w) = inr (w .0, omega (arith, w .1), w .2)
 
     go : (b : Bool) → (members S n ≡ []) ⊎ ((x : ℕ) × (x < n) × (members S n ≡ x ∷ members S x))
-        → (cond b (n ∷ members S n) (members S n) ≡ []) ⊎ ((x : ℕ) × (x < suc n) × (cond b (n ∷ members S n) (members S n) ≡ x ∷ members S x))
+        → (cond b (n ∷ members S n) (members S n) ≡ []) ⊎
+        ((x : ℕ) × (x < suc n) × (cond b (n ∷ members S n) (members S n) ≡ x ∷ members S x))
     go true w = inr (n, omega arith, refl)
     go false w = more (members S n) w
 
@@ -63,7 +65,8 @@ drop-edge S m n z =
 -- the m largest, flipped back into what stands below the edge, give the set
 pub fold-back : (S : Set) (m n p : ℕ) → 0 < m → p < n → differ (odd (take m (members S n)) p) (below (boundary m n S) S p) ≡ S p
 fold-back S m n p z h =
-    ap (differ (odd (take m (members S n)) p)) (sym (members-odd S (boundary m n S) p) ∙ ap (λ (l : List ℕ). odd l p) (sym (drop-edge S m n z)))
+    ap (differ (odd (take m (members S n)) p)) (sym (members-odd S (boundary m n S) p)
+    ∙ ap (λ (l : List ℕ). odd l p) (sym (drop-edge S m n z)))
     ∙ sym (odd-append (take m (members S n)) (drop m (members S n)) p)
     ∙ ap (λ (l : List ℕ). odd l p) (take-append-drop m (members S n))
     ∙ members-odd S n p
@@ -105,7 +108,8 @@ module _ {m k : ℕ} {top blocks : List ℕ} {count edge : ℕ} {S : Set} (H : H
   pub holds-tops : take count top ≡ take m (members S (64 * k))
   holds-tops =
       let c = count-fits in
-      ext-getD 0 (take count top) (take m (members S (64 * k))) (omega (arith, length-take-le count top c, length-take m (members S (64 * k)), H .countIs))
+      ext-getD 0 (take count top) (take m (members S (64 * k)))
+      (omega (arith, length-take-le count top c, length-take m (members S (64 * k)), H .countIs))
       (λ i h.
       let a : i < count = omega (arith, length-take-le count top c) in
       let b : i < m = omega (arith, H .countIs) in
@@ -115,7 +119,8 @@ module _ {m k : ℕ} {top blocks : List ℕ} {count edge : ℕ} {S : Set} (H : H
   holds-below i h =
       let c = count-fits in
       let a : i < count = omega (arith, length-take-le count top c) in
-      let e : getD (take count top) i 0 ≡ getD (members S (64 * k)) i 0 = getD-take count top i 0 a ∙ top-at i (omega (arith, H .countIs)) in
+      let e : getD (take count top) i 0 ≡ getD (members S (64 * k)) i 0 =
+      getD-take count top i 0 a ∙ top-at i (omega (arith, H .countIs)) in
       omega (arith, falls-at (members S (64 * k)) (64 * k) i (members-fall S (64 * k)) (omega (arith, H .countIs)))
 
   pub holds-bits : (p : ℕ) → p < 64 * k → held blocks p ≡ below (boundary m (64 * k) S) S p
@@ -124,7 +129,8 @@ module _ {m k : ℕ} {top blocks : List ℕ} {count edge : ℕ} {S : Set} (H : H
       let E : Set = below (boundary m (64 * k) S) S in
       let i : p / 64 < k = omega arith in
       let e : 64 * (p / 64) + p % 64 ≡ p = omega arith in
-      ap (λ (x : ℕ). digit x (p % 64)) (sym (getD-take k blocks (p / 64) 0 i) ∙ ap (λ (l : List ℕ). getD l (p / 64) 0) (H .bits) ∙ getD-tabulate k (blockAt E) (p / 64) 0 i)
+      ap (λ (x : ℕ). digit x (p % 64)) (sym (getD-take k blocks (p / 64) 0 i) ∙ ap (λ (l : List ℕ). getD l (p / 64) 0) (H .bits)
+      ∙ getD-tabulate k (blockAt E) (p / 64) 0 i)
       ∙ digit-word E (64 * (p / 64)) 64 (p % 64) (omega arith)
       ∙ ap E e
 
@@ -163,7 +169,8 @@ blocks-held l k S h p a =
     ap (λ (x : ℕ). digit x (p % 64)) (h (p / 64) (omega arith)) ∙ digit-word S (64 * (p / 64)) 64 (p % 64) (omega arith) ∙ ap S e
 
 -- blocks whose set agrees with another are the blocks of that one
-pub held-blocks : (k : ℕ) (blocks : List ℕ) (S : Set) → k ≤ length blocks → ((i : ℕ) → getD blocks i 0 < 2 ^ 64) → Agree (64 * k) (held blocks) S
+pub held-blocks : (k : ℕ) (blocks : List ℕ) (S : Set) → k ≤ length blocks → ((i : ℕ) → getD blocks i 0 < 2 ^ 64)
+    → Agree (64 * k) (held blocks) S
     → take k blocks ≡ tabulate k (blockAt S)
 held-blocks k blocks S l f h =
     take-tabulate k (blockAt S) blocks l

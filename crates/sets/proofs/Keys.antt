@@ -140,4 +140,5 @@ slots-fit c mask size S =
 pub key-same : (c : Config) (mask size : ℕ) (S T : Set) → Agree (W c) S T → keyOf c mask size S ≡ keyOf c mask size T
 unfolding keyOf
 key-same c mask size S T h =
-    ap (packed (positionBits c) (leftoverBits c) (wholeSlots c)) (members-same (kept mask size S) (kept mask size T) (W c) (λ p l. kept-same mask size S T p (h p l)))
+    ap (packed (positionBits c) (leftoverBits c) (wholeSlots c))
+    (members-same (kept mask size S) (kept mask size T) (W c) (λ p l. kept-same mask size S T p (h p l)))

@@ -317,7 +317,8 @@ members-count S a (suc n) =
 
 -- ---- a falling list, and another below it
 
-pub falls-append : (xs ys : List ℕ) (n e : ℕ) → Falls n xs → e ≤ n → ((i : ℕ) → i < length xs → e ≤ getD xs i 0) → Falls e ys → Falls n (xs ++ ys)
+pub falls-append : (xs ys : List ℕ) (n e : ℕ) → Falls n xs → e ≤ n → ((i : ℕ) → i < length xs → e ≤ getD xs i 0) → Falls e ys
+    → Falls n (xs ++ ys)
 falls-append [] ys n e f l h g = falls-more ys l g
 falls-append (x ∷ xs) ys n e f l h g =
     (f .0, falls-append xs ys x e (f .1) (h 0 (omega arith)) (λ i a. h (suc i) (omega arith)) g)

@@ -80,7 +80,8 @@ module _ {S : Set} {n : ℕ} {tops : List ℕ} {R : Set} {edge : ℕ} (L : Lifti
     pub lift-all : members S n ≡ tops
     lift-all =
         L .taken
-        ∙ ap (λ (l : List ℕ). tops ++ l) (members-none S edge (λ q h. sym (below-in edge S q h) ∙ sym (L .left q (omega (arith, L .within))) ∙ void q (omega arith)))
+        ∙ ap (λ (l : List ℕ). tops ++ l)
+        (members-none S edge (λ q h. sym (below-in edge S q h) ∙ sym (L .left q (omega (arith, L .within))) ∙ void q (omega arith)))
         ∙ append-nil tops
 
     pub lift-empty : (m : ℕ) → length tops < m → (p : ℕ) → p < n → R p ≡ below (boundary m n S) S p

@@ -151,7 +151,8 @@ module _ (n mask size : ℕ) where
   pub order-self : (S : Set) → orderOf n mask size S S ≡ equal
   order-self S = told-order S S equal (λ p h. refl)
 
-  pub order-trans : (S T R : Set) → orderOf n mask size S T ≡ greater → orderOf n mask size T R ≡ greater → orderOf n mask size S R ≡ greater
+  pub order-trans : (S T R : Set) → orderOf n mask size S T ≡ greater → orderOf n mask size T R ≡ greater
+      → orderOf n mask size S R ≡ greater
   order-trans S T R x y =
       told-order S R greater (leads-trans (order-told S T greater x .1) (order-told T R greater y .1))
 

@@ -15,8 +15,10 @@ use borrow.Author.Tests.{eq-eqb, lt-ltb, le-leb, eqb-true, ltb-true, leb-true}
 use Rattle.sets.specs.Sets.{Empty, Falls, Set, below, members, onward, tabulate}
 use Rattle.sets.specs.Words.{blockAt, held}
 use Rattle.sets.specs.Configurations.{Config, Sound, W, blocksFor, longestRow}
-use Rattle.sets.specs.Row.{bitPart, bytesOf, faultless, numbers, row, rowBlockCount, rowBlocks, rowBoundary, rowEntries, shownRow, spareByte, topBytes}
-use Rattle.sets.specs.Row.{Fault, countFault, entriesFit, fallFault, highFault, isRow, lengthFits, lowest, nowhere, place, rising, sound, spareFault}
+use Rattle.sets.specs.Row.{bitPart, bytesOf, faultless, numbers, row, rowBlockCount, rowBlocks, rowBoundary, rowEntries, shownRow}
+use Rattle.sets.specs.Row.{spareByte, topBytes}
+use Rattle.sets.specs.Row.{Fault, countFault, entriesFit, fallFault, highFault, isRow, lengthFits, lowest, nowhere, place, rising}
+use Rattle.sets.specs.Row.{sound, spareFault}
 use Rattle.sets.specs.Refusals.{Verdict, isRowOf, refused, taken, verdict}
 use Rattle.sets.proofs.Laws.{below-in, below-out, onward-none, onward-none-back, falls-at}
 use Rattle.sets.proofs.Words.{held-word, word-same}
@@ -25,7 +27,8 @@ use Rattle.sets.proofs.Tests.{and-intro, and-left, and-right, below-all
 use Rattle.sets.proofs.Split.{Split, joined-bit, joined-edge, joined-top}
 use Rattle.sets.proofs.Bytes.{Bytes, length-bytesOf, length-numbers, numbers-below, bytesOf-numbers}
 use Rattle.sets.proofs.Rows.{bitPart-none, bitPart-some, edgeOf, rowBits, rowBits-held, topsOf, tops-split}
-use Rattle.sets.proofs.Rows.{row-bits, row-blockCount, row-blocks, row-boundary, row-cases, row-entries, row-longest, row-same, shown-row}
+use Rattle.sets.proofs.Rows.{row-bits, row-blockCount, row-blocks, row-boundary, row-cases, row-entries, row-longest, row-same}
+use Rattle.sets.proofs.Rows.{shown-row}
 
 -- ---- the four tests of refusal 5, as facts
 
@@ -132,7 +135,8 @@ module _ (c : Config) (bs : List ℕ) where
   facts-length h g =
       and-intro _ _ (le-leb _ _ h) (⊎-elim
       (λ k. or-left _ _ (and-intro _ _ (eq-eqb _ _ (k .0)) (le-leb _ _ (k .1))))
-      (λ k. or-right (eqb (length bs % c .entry) 0 && leb (length bs) (topBytes c)) _ (and-intro _ _ (le-leb _ _ (k .0)) (eq-eqb _ _ (k .1))))
+      (λ k. or-right (eqb (length bs % c .entry) 0 && leb (length bs) (topBytes c)) _
+      (and-intro _ _ (le-leb _ _ (k .0)) (eq-eqb _ _ (k .1))))
       g)
 
 -- ---- the row of a set passes
@@ -145,7 +149,8 @@ module _ (c : Config) (s : Sound c) (S : Set) where
       (λ e l. absurd (n e))
       (λ e f l.
       ap (λ (bs : List ℕ). getD bs (topBytes c) 0) (row-bits c S e)
-      ∙ getD-at xs (spareByte (edgeOf c S)) (bytesOf 8 (rowBits (edgeOf c S) S)) 0 (topBytes c) (length-bytesOf (c .entry) (topsOf c S) ∙ ap (λ (x : ℕ). x * c .entry) f))
+      ∙ getD-at xs (spareByte (edgeOf c S)) (bytesOf 8 (rowBits (edgeOf c S) S)) 0 (topBytes c)
+      (length-bytesOf (c .entry) (topsOf c S) ∙ ap (λ (x : ℕ). x * c .entry) f))
 
   row-faultless : Faultless c (row c S)
   row-faultless =
@@ -163,14 +168,18 @@ module _ (c : Config) (s : Sound c) (S : Set) where
   row-lengthFits =
       facts-length c (row c S) (row-longest c s S) (row-cases c s S
       {P = Short c (row c S) ⊎ Long c (row c S)}
-      (λ e l. inl (ap (λ (x : ℕ). x % c .entry) l ∙ mul-mod-left (length (topsOf c S)) (c .entry), omega (arith, mul-le-mul-right (c .entry) (tops-split c s S .few))))
+      (λ e l. inl (
+        ap (λ (x : ℕ). x % c .entry) l ∙ mul-mod-left (length (topsOf c S)) (c .entry),
+        omega (arith, mul-le-mul-right (c .entry) (tops-split c s S .few)),
+      ))
       (λ e f l. inr (omega arith, omega arith)))
 
   pub row-passes : isRow c (row c S) ≡ true
   unfolding isRow entriesFit
   row-passes =
       let F : Faultless c (row c S) = row-faultless in
-      let fit : entriesFit c (row c S) ≡ true = below-all (W c) (rowEntries c (row c S)) (λ i h. falls-at (rowEntries c (row c S)) (W c) i (F .falling) h) in
+      let fit : entriesFit c (row c S) ≡ true =
+      below-all (W c) (rowEntries c (row c S)) (λ i h. falls-at (rowEntries c (row c S)) (W c) i (F .falling) h) in
       and-intro _ _ row-lengthFits (and-intro _ _ fit (facts-faultless c (row c S) F))
 
 -- ---- what passes is the row of the set that it shows
@@ -219,7 +228,8 @@ module _ (c : Config) (s : Sound c) (bs : List ℕ) (b : Bytes bs) (F : Faultles
       (ap (edgeOf c) (shown-row c bs) ∙ joined-edge (s .some) (entries-split c bs F) R)
 
   -- its entries are its first bytes
-  entries-back : (n : ℕ) → min (c .M) (length bs / c .entry) ≡ n → n * c .entry ≤ length bs → bytesOf (c .entry) (rowEntries c bs) ≡ take (n * c .entry) bs
+  entries-back : (n : ℕ) → min (c .M) (length bs / c .entry) ≡ n → n * c .entry ≤ length bs
+      → bytesOf (c .entry) (rowEntries c bs) ≡ take (n * c .entry) bs
   unfolding rowEntries
   entries-back n e h = ap (λ (x : ℕ). bytesOf (c .entry) (numbers (c .entry) x bs)) e ∙ bytesOf-numbers (c .entry) n bs b h
 
@@ -262,7 +272,8 @@ module _ (c : Config) (s : Sound c) (bs : List ℕ) (b : Bytes bs) (F : Faultles
 
 -- ---- the tests pass exactly the rows of sets
 
-pub row-tests : (c : Config) (bs : List ℕ) → isRow c bs ≡ true → (lengthFits c bs ≡ true) × (entriesFit c bs ≡ true) × (faultless c bs ≡ true)
+pub row-tests : (c : Config) (bs : List ℕ) → isRow c bs ≡ true
+    → (lengthFits c bs ≡ true) × (entriesFit c bs ≡ true) × (faultless c bs ≡ true)
 unfolding isRow
 row-tests c bs h =
     let g : (entriesFit c bs && faultless c bs) ≡ true = and-right (lengthFits c bs) _ h in

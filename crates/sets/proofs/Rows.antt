@@ -14,7 +14,8 @@ use Rattle.sets.specs.Sets.{Agree, Below, Set, below, from, members, tab
 use Rattle.sets.specs.Words.{blockAt, held}
 use Rattle.sets.specs.Configurations.{Config, Sound, W, blocksFor, longestRow}
 use Rattle.sets.specs.Filter.{boundary, joined, topCount, topList}
-use Rattle.sets.specs.Row.{bitPart, bytesOf, numbers, row, rowBlockCount, rowBlocks, rowBoundary, rowEntries, shownRow, spareByte, topBytes}
+use Rattle.sets.specs.Row.{bitPart, bytesOf, numbers, row, rowBlockCount, rowBlocks, rowBoundary, rowEntries, shownRow, spareByte}
+use Rattle.sets.specs.Row.{topBytes}
 use Rattle.sets.proofs.Configurations.{W-entry}
 use Rattle.sets.proofs.Laws.{members-same, members-fall, falls-room, below-in, below-same}
 use Rattle.sets.proofs.Words.{word-lt}
@@ -40,7 +41,8 @@ bitPart-some edge S e = rw (ne-eqb edge 0 e)
 pub bitPart-same : (edge : ℕ) (S R : Set) → Agree edge S R → bitPart edge S ≡ bitPart edge R
 unfolding bitPart
 bitPart-same edge S R h =
-    ap (λ (X : Set). cond (eqb edge 0) [] (spareByte edge ∷ bytesOf 8 (tabulate (blocksFor edge) (blockAt X)))) (fun-ext (below-same edge S R h))
+    ap (λ (X : Set). cond (eqb edge 0) [] (spareByte edge ∷ bytesOf 8 (tabulate (blocksFor edge) (blockAt X))))
+    (fun-ext (below-same edge S R h))
 
 pub length-bitPart : (edge : ℕ) (S : Set) → length (bitPart edge S) ≡ cond (eqb edge 0) 0 (1 + 8 * blocksFor edge)
 unfolding bitPart
@@ -95,7 +97,8 @@ module _ (c : Config) (S : Set) where
       (bytesOf-below (c .entry) (topsOf c S)) (bitPart-below (edgeOf c S) S)
 
   -- the row where it has a bit part
-  pub row-bits : (edgeOf c S ≡ 0 → ⊥) → row c S ≡ bytesOf (c .entry) (topsOf c S) ++ (spareByte (edgeOf c S) ∷ bytesOf 8 (rowBits (edgeOf c S) S))
+  pub row-bits : (edgeOf c S ≡ 0 → ⊥)
+      → row c S ≡ bytesOf (c .entry) (topsOf c S) ++ (spareByte (edgeOf c S) ∷ bytesOf 8 (rowBits (edgeOf c S) S))
   unfolding row
   row-bits e = ap (_++_ (bytesOf (c .entry) (topsOf c S))) (bitPart-some (edgeOf c S) S e)
 
@@ -134,7 +137,8 @@ module _ (c : Config) (s : Sound c) (S : Set) where
   pub row-same : (R : Set) → Agree (W c) S R → row c S ≡ row c R
   unfolding row
   row-same R h =
-      ap (_++_ (bytesOf (c .entry) (topsOf c S))) (bitPart-same (edgeOf c S) S R (λ p a. h p (omega (arith, edge-low (s .some) tops-split))))
+      ap (_++_ (bytesOf (c .entry) (topsOf c S))) (bitPart-same (edgeOf c S) S R
+      (λ p a. h p (omega (arith, edge-low (s .some) tops-split))))
       ∙ ap (λ (x : List ℕ). bytesOf (c .entry) (take (c .M) x) ++ bitPart (getD x (c .M - 1) 0) R) (members-same S R (W c) h)
 
   -- ---- what is read from a set's row
@@ -156,7 +160,8 @@ module _ (c : Config) (s : Sound c) (S : Set) where
 
   pub row-entries : rowEntries c (row c S) ≡ topsOf c S
   unfolding rowEntries row
-  row-entries = ap (λ (x : ℕ). numbers (c .entry) x (row c S)) row-count ∙ numbers-bytesOf (c .entry) (topsOf c S) (bitPart (edgeOf c S) S) tops-fit
+  row-entries =
+      ap (λ (x : ℕ). numbers (c .entry) x (row c S)) row-count ∙ numbers-bytesOf (c .entry) (topsOf c S) (bitPart (edgeOf c S) S) tops-fit
 
   pub row-boundary : rowBoundary c (row c S) ≡ edgeOf c S
   row-boundary = ap (λ (l : List ℕ). getD l (c .M - 1) 0) row-entries ∙ sym (tops-split .edgeIs)
@@ -195,7 +200,8 @@ row-back c s S p h =
     ap (λ (R : Set). R p) (shown-row c (row c S))
     ∙ ap₂ (λ (l bl : List ℕ). joined l (rowBoundary c (row c S)) (held bl) p) (row-entries c s S) (row-blocks c s S)
     ∙ ap (λ (e : ℕ). joined (topsOf c S) e (held (rowBits (edgeOf c S) S)) p) (row-boundary c s S)
-    ∙ joined-set (c .M) (W c) (s .some) S (held (rowBits (edgeOf c S) S)) p (λ q l. rowBits-held (edgeOf c S) S q (omega arith) ∙ below-in (edgeOf c S) S q l) h
+    ∙ joined-set (c .M) (W c) (s .some) S (held (rowBits (edgeOf c S) S)) p
+    (λ q l. rowBits-held (edgeOf c S) S q (omega arith) ∙ below-in (edgeOf c S) S q l) h
 
 -- so no two sets have one row
 pub row-one : (c : Config) → Sound c → (S R : Set) → row c S ≡ row c R → (p : ℕ) → p < W c → S p ≡ R p

@@ -49,7 +49,8 @@ module _ (m k : ℕ) (top blocks : List ℕ) (count edge : ℕ) where
   pub holds-of : (S : Set) → Holds m k top blocks count edge S → isFilterOf m k top blocks count edge S ≡ true
   unfolding isFilterOf
   holds-of S H =
-      and-intro _ _ (eq-eqb _ _ (H .countIs)) (and-intro _ _ (eq-eqb _ _ (H .edgeIs)) (and-intro _ _ (eq-same _ _ (H .tops)) (eq-same _ _ (H .bits))))
+      and-intro _ _ (eq-eqb _ _ (H .countIs)) (and-intro _ _ (eq-eqb _ _ (H .edgeIs))
+      (and-intro _ _ (eq-same _ _ (H .tops)) (eq-same _ _ (H .bits))))
 
   -- true: it is the filter of the set shown
   pub filter-holds : isFilter m k top blocks count edge ≡ true → Holds m k top blocks count edge (shown top blocks count edge)
@@ -63,7 +64,8 @@ module _ (m k : ℕ) (top blocks : List ℕ) (count edge : ℕ) where
       holds-of (shown top blocks count edge) (holds-same m k S (shown top blocks count edge) (λ p h. sym (shown-set H z p h)) H)
 
   -- the set is the one shown, so two sets of buckets never share record and areas
-  pub the-set : (S : Set) → 0 < m → Holds m k top blocks count edge S → ((p : ℕ) → 64 * k ≤ p → S p ≡ false) → S ≡ below (64 * k) (shown top blocks count edge)
+  pub the-set : (S : Set) → 0 < m → Holds m k top blocks count edge S → ((p : ℕ) → 64 * k ≤ p → S p ≡ false)
+      → S ≡ below (64 * k) (shown top blocks count edge)
   the-set S z H n = fun-ext (λ p. go p (decLt p (64 * k)))
     where
       go : (p : ℕ) → Dec (p < 64 * k) → S p ≡ below (64 * k) (shown top blocks count edge) p

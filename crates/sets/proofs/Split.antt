@@ -9,7 +9,8 @@ use lib.ListN.{length, getD, take, drop, length-take, take-append-drop, List·ge
 use lib.Seq.{getD-take, take-all, take-at}
 use Rattle.sets.specs.Sets.{Empty, Falls, Set, among, below, members}
 use Rattle.sets.specs.Filter.{boundary, joined}
-use Rattle.sets.proofs.Laws.{members-fall, members-unique, falls-take, falls-room, falls-order, falls-append, below-in, below-out, below-same}
+use Rattle.sets.proofs.Laws.{members-fall, members-unique, falls-take, falls-room, falls-order, falls-append, below-in, below-out}
+use Rattle.sets.proofs.Laws.{below-same}
 use Rattle.sets.proofs.Filters.{drop-edge}
 use Rattle.sets.proofs.Tests.{among-append, falls-among, members-among, among-under}
 
@@ -29,11 +30,13 @@ module _ (m n : ℕ) (z : 0 < m) (S : Set) where
       }
 
   -- a set is joined of its parts
-  pub joined-set : (R : Set) (p : ℕ) → ((q : ℕ) → q < boundary m n S → R q ≡ S q) → p < n → joined (take m (members S n)) (boundary m n S) R p ≡ S p
+  pub joined-set : (R : Set) (p : ℕ) → ((q : ℕ) → q < boundary m n S → R q ≡ S q) → p < n
+      → joined (take m (members S n)) (boundary m n S) R p ≡ S p
   joined-set R p a h =
       let l : List ℕ = members S n in
       let e : ℕ = boundary m n S in
-      ap (_||_ (among (take m l) p)) (below-same e R S a p ∙ sym (members-among S e p) ∙ ap (λ (x : List ℕ). among x p) (sym (drop-edge S m n z)))
+      ap (_||_ (among (take m l) p)) (below-same e R S a p ∙ sym (members-among S e p)
+      ∙ ap (λ (x : List ℕ). among x p) (sym (drop-edge S m n z)))
       ∙ sym (among-append (take m l) (drop m l) p)
       ∙ ap (λ (x : List ℕ). among x p) (take-append-drop m l)
       ∙ members-among S n p

@@ -45,7 +45,8 @@ same-eq [] [] h = refl
 same-eq [] (y ∷ ys) h = absurd (true≢false (sym h))
 same-eq (x ∷ xs) [] h = absurd (true≢false (sym h))
 same-eq (x ∷ xs) (y ∷ ys) h =
-    ap₂ (λ (a : ℕ) (l : List ℕ). a ∷ l) (eqb-true x y (and-left (eqb x y) (same xs ys) h)) (same-eq xs ys (and-right (eqb x y) (same xs ys) h))
+    ap₂ (λ (a : ℕ) (l : List ℕ). a ∷ l) (eqb-true x y (and-left (eqb x y) (same xs ys) h))
+    (same-eq xs ys (and-right (eqb x y) (same xs ys) h))
 
 same-refl : (xs : List ℕ) → same xs xs ≡ true
 same-refl [] = refl
@@ -62,7 +63,8 @@ all-below n (x ∷ xs) h (suc i) a = all-below n xs (and-right (ltb x n) (allBel
 
 pub below-all : (n : ℕ) (l : List ℕ) → Below n l → allBelow n l ≡ true
 below-all n [] h = refl
-below-all n (x ∷ xs) h = and-intro (ltb x n) (allBelow n xs) (lt-ltb x n (h 0 (omega arith))) (below-all n xs (λ i a. h (suc i) (omega arith)))
+below-all n (x ∷ xs) h =
+    and-intro (ltb x n) (allBelow n xs) (lt-ltb x n (h 0 (omega arith))) (below-all n xs (λ i a. h (suc i) (omega arith)))
 
 -- ---- among
 
@@ -93,7 +95,8 @@ among-under (x ∷ xs) e p h a =
 pub below-first : (n : ℕ) (xs ys : List ℕ) → allBelow n (xs ++ ys) ≡ true → allBelow n xs ≡ true
 below-first n [] ys h = refl
 below-first n (x ∷ xs) ys h =
-    and-intro (ltb x n) (allBelow n xs) (and-left (ltb x n) (allBelow n (xs ++ ys)) h) (below-first n xs ys (and-right (ltb x n) (allBelow n (xs ++ ys)) h))
+    and-intro (ltb x n) (allBelow n xs) (and-left (ltb x n) (allBelow n (xs ++ ys)) h)
+    (below-first n xs ys (and-right (ltb x n) (allBelow n (xs ++ ys)) h))
 
 pub below-second : (n : ℕ) (xs ys : List ℕ) → allBelow n (xs ++ ys) ≡ true → allBelow n ys ≡ true
 below-second n [] ys h = h

@@ -12,7 +12,8 @@ after-taken [] us e = refl
 after-taken (t ∷ ts) us e = go (t .1) (after-taken ts us) e
   where
     go : (b : Bool) → (firstFailing ts ≡ taken → firstFailing (ts ++ us) ≡ firstFailing us)
-        → cond b (firstFailing ts) (refused (number (t .0))) ≡ taken → cond b (firstFailing (ts ++ us)) (refused (number (t .0))) ≡ firstFailing us
+        → cond b (firstFailing ts) (refused (number (t .0))) ≡ taken → cond b (firstFailing (ts ++ us)) (refused (number (t .0)))
+        ≡ firstFailing us
     go true f e = f e
     go false f e =
         let z : _≡_ {A = ℕ} 0 1 = cc in
@@ -26,7 +27,8 @@ after-refused [] us e =
 after-refused (t ∷ ts) us {n} e = go (t .1) (after-refused ts us) e
   where
     go : (b : Bool) → (firstFailing ts ≡ refused n → firstFailing (ts ++ us) ≡ refused n)
-        → cond b (firstFailing ts) (refused (number (t .0))) ≡ refused n → cond b (firstFailing (ts ++ us)) (refused (number (t .0))) ≡ refused n
+        → cond b (firstFailing ts) (refused (number (t .0)))
+        ≡ refused n → cond b (firstFailing (ts ++ us)) (refused (number (t .0))) ≡ refused n
     go true f e = f e
     go false f e = e
 

@@ -3,7 +3,8 @@ use mathlib.Core.Path.{_≡_, refl, sym, ap, ap₂, _∙_, subst, fun-ext}
 use mathlib.Core.Bool.{Bool, true, false, true≢false, cond, _&&_, _||_}
 use mathlib.Core.List.{List, [], _∷_, _++_}
 use Prim.Native.Nat.{ℕ, zero, suc, _+_, _-_, _*_, _/_, _%_, _^_, _≤_, _<_, max, min}
-use native.Mathlib.Nat.{pow-suc, add-comm, div-eq-of-lt, div-eq-of-lt-le, mod-eq-of-lt, mod-self, mul-add-mod-self-right, mul-mod-left, lt-of-lt-of-le}
+use native.Mathlib.Nat.{pow-suc, add-comm, div-eq-of-lt, div-eq-of-lt-le, mod-eq-of-lt, mod-self, mul-add-mod-self-right, mul-mod-left}
+use native.Mathlib.Nat.{lt-of-lt-of-le}
 use native.Mathlib.Decide.{decLt, ℕ-discrete}
 use native.Mathlib.Numerals.{add-one}
 use native.Mathlib.Omega.{arith}
@@ -45,7 +46,8 @@ bit-lt false = omega arith
 
 pub digit-high : (b : Bool) (n w : ℕ) → w < 2 ^ n → digit (w + bit b * 2 ^ n) n ≡ b
 unfolding digit
-digit-high b n w h = ap (λ (x : ℕ). eqb (x / 2 ^ n % 2) 1) (add-comm w (bit b * 2 ^ n)) ∙ ap (λ (x : ℕ). eqb (x % 2) 1) (high (bit b) n h) ∙ bit-digit b
+digit-high b n w h =
+    ap (λ (x : ℕ). eqb (x / 2 ^ n % 2) 1) (add-comm w (bit b * 2 ^ n)) ∙ ap (λ (x : ℕ). eqb (x % 2) 1) (high (bit b) n h) ∙ bit-digit b
 
 -- a digit past the number is not set
 pub digit-past : (w j : ℕ) → w < 2 ^ j → digit w j ≡ false
@@ -72,7 +74,8 @@ unfolding word
 digit-word S from zero j h = absurd (omega arith)
 digit-word S from (suc n) j h = go (λ l. digit-word S from n j l) (ℕ-discrete j n)
   where
-    go : (j < n → digit (word S from n) j ≡ S (from + j)) → Dec (j ≡ n) → digit (word S from n + bit (S (from + n)) * 2 ^ n) j ≡ S (from + j)
+    go : (j < n → digit (word S from n) j ≡ S (from + j)) → Dec (j ≡ n)
+        → digit (word S from n + bit (S (from + n)) * 2 ^ n) j ≡ S (from + j)
     go ih (yes e) = rw e (digit-high (S (from + n)) n (word S from n) (word-lt S from n))
     go ih (no e) =
         let l : j < n = omega arith in
@@ -193,8 +196,10 @@ digit-pow i j = go (ℕ-discrete j i) (decLt j i)
 
 pub word-apart : (S R : Set) (from n : ℕ) → word (apart S R) from n ≡ bitXor (word S from n) (word R from n)
 word-apart S R from n =
-    digits-same n (word (apart S R) from n) (bitXor (word S from n) (word R from n)) (word-lt (apart S R) from n) (xor-lt n (word S from n) (word R from n) (word-lt S from n) (word-lt R from n))
-    (λ j l. digit-word (apart S R) from n j l ∙ sym (digit-xor (word S from n) (word R from n) j ∙ ap₂ differ (digit-word S from n j l) (digit-word R from n j l)))
+    digits-same n (word (apart S R) from n) (bitXor (word S from n) (word R from n)) (word-lt (apart S R) from n)
+    (xor-lt n (word S from n) (word R from n) (word-lt S from n) (word-lt R from n))
+    (λ j l. digit-word (apart S R) from n j l
+    ∙ sym (digit-xor (word S from n) (word R from n) j ∙ ap₂ differ (digit-word S from n j l) (digit-word R from n j l)))
 
 pub word-both : (S R : Set) (from n : ℕ) → word (λ p. S p && R p) from n ≡ bitAnd (word S from n) (word R from n)
 word-both S R from n =
@@ -221,7 +226,8 @@ held-flip l p h = fun-ext (λ q. go q (ℕ-discrete (q / 64) (p / 64)))
     v : ℕ
     v = bitXor (getD l (p / 64) 0) (2 ^ (p % 64))
 
-    go : (q : ℕ) → Dec (q / 64 ≡ p / 64) → digit (getD (set l (p / 64) v) (q / 64) 0) (q % 64) ≡ differ (eqb q p) (digit (getD l (q / 64) 0) (q % 64))
+    go : (q : ℕ) → Dec (q / 64 ≡ p / 64)
+        → digit (getD (set l (p / 64) v) (q / 64) 0) (q % 64) ≡ differ (eqb q p) (digit (getD l (q / 64) 0) (q % 64))
     go q (yes e) =
         ap (λ (i : ℕ). digit (getD (set l (p / 64) v) i 0) (q % 64)) e
         ∙ ap (λ (x : ℕ). digit x (q % 64)) (getD-set-same l (p / 64) v 0 h)
@@ -329,7 +335,8 @@ word-flip b S =
     let m : q % 64 ≡ j = omega arith in
     digit-word (flip b S) (64 * (b / 64)) 64 j k
     ∙ differ-comm (eqb q b) (S q)
-    ∙ sym (digit-xor w (2 ^ (b % 64)) j ∙ ap₂ differ (digit-word S (64 * (b / 64)) 64 j k) (digit-pow (b % 64) j ∙ ap (λ (x : ℕ). eqb x (b % 64)) (sym m) ∙ same-place q b e)))
+    ∙ sym (digit-xor w (2 ^ (b % 64)) j
+    ∙ ap₂ differ (digit-word S (64 * (b / 64)) 64 j k) (digit-pow (b % 64) j ∙ ap (λ (x : ℕ). eqb x (b % 64)) (sym m) ∙ same-place q b e)))
 
 pub word-flip-other : (b : ℕ) (S : Set) (i : ℕ) → (i ≡ b / 64 → ⊥) → word (flip b S) (64 * i) 64 ≡ word S (64 * i) 64
 word-flip-other b S i h =
@@ -345,12 +352,15 @@ top-digit w p h =
     let e : 63 - leadingZeros 64 w ≡ t .0 = omega (arith, t .1) in
     subst (TopDigit w) (sym e) (record {
       small = omega (arith, t .1);
-      isSet = ap (λ (x : ℕ). eqb (x % 2) 1) (div-eq-of-lt-le {k = 1} (2 ^ (t .0)) (omega (arith, t .2)) (omega (arith, t .3, pow-suc 2 (t .0))));
+      isSet =
+          ap (λ (x : ℕ). eqb (x % 2) 1) (div-eq-of-lt-le {k = 1} (2 ^ (t .0)) (omega (arith, t .2))
+          (omega (arith, t .3, pow-suc 2 (t .0))));
       above = λ q l. digit-past w q (lt-of-lt-of-le (t .3) (pow-mono l));
     })
 
 -- in a block of a set it is the largest member
-pub top-member : (S : Set) (i j : ℕ) → TopDigit (blockAt S i) j → (S (64 * i + j) ≡ true) × ((q : ℕ) → j < q → q < 64 → S (64 * i + q) ≡ false)
+pub top-member : (S : Set) (i j : ℕ) → TopDigit (blockAt S i) j
+    → (S (64 * i + j) ≡ true) × ((q : ℕ) → j < q → q < 64 → S (64 * i + q) ≡ false)
 top-member S i j t =
     (sym (digit-word S (64 * i) 64 j (t .small)) ∙ t .isSet, λ q l h. sym (digit-word S (64 * i) 64 q h) ∙ t .above q l)
 
@@ -362,7 +372,8 @@ word-less A B from zero j l a b f g = absurd (omega arith)
 word-less A B from (suc n) j l a b f g = go (ℕ-discrete j n) (word-less A B from n j)
   where
     go : Dec (j ≡ n)
-        → (j < n → A (from + j) ≡ true → B (from + j) ≡ false → ((q : ℕ) → j < q → q < n → A (from + q) ≡ false) → ((q : ℕ) → j < q → q < n → B (from + q) ≡ false)
+        → (j < n → A (from + j) ≡ true → B (from + j)
+        ≡ false → ((q : ℕ) → j < q → q < n → A (from + q) ≡ false) → ((q : ℕ) → j < q → q < n → B (from + q) ≡ false)
         → word B from n < word A from n)
         → word B from (suc n) < word A from (suc n)
     go (yes e) h =

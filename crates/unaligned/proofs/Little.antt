@@ -23,7 +23,8 @@ little-append (x ∷ xs) ys =
 pub little-one : (l : List ℕ) (at : ℕ) → at < length l → little (take 1 (drop at l)) ≡ getD l at 0
 little-one l at h = rw (drop-cons l at 0) (omega arith)
 
-pub little-split : (w u at : ℕ) (l : List ℕ) → at + (w + u) ≤ length l → little (take (w + u) (drop at l)) ≡ little (take w (drop at l)) + 2 ^ (8 * w) * little (take u (drop (at + w) l))
+pub little-split : (w u at : ℕ) (l : List ℕ) → at + (w + u) ≤ length l
+    → little (take (w + u) (drop at l)) ≡ little (take w (drop at l)) + 2 ^ (8 * w) * little (take u (drop (at + w) l))
 little-split w u at l h =
     let n : length (take w (drop at l)) ≡ w = length-take-le w (drop at l) (omega (arith, length-drop at l)) in
     rw (take-add w u (drop at l), drop-drop w at l)
@@ -37,10 +38,13 @@ bytes-split zero u v = rw (zero-add, div-one)
 bytes-split (suc w) u v =
     let e : 8 * suc w ≡ 8 * w + 8 = omega arith in
     let f : 8 * suc w ≡ 8 + 8 * w = omega arith in
-    rw (suc-add w u, e, mod-mod-pow v (8 * w) 8, field v (8 * w) 8, ← e, f, ← shr-shr v 8 (8 * w)) (ap (_∷_ (v % 256)) (bytes-split w u (v / 256)))
+    rw (suc-add w u, e, mod-mod-pow v (8 * w) 8, field v (8 * w) 8, ← e, f, ← shr-shr v 8 (8 * w))
+    (ap (_∷_ (v % 256)) (bytes-split w u (v / 256)))
 
-pub sets-split : (w u v at : ℕ) (l : List ℕ) → sets (sets l at (bytes w (v % 2 ^ (8 * w)))) (at + w) (bytes u (v / 2 ^ (8 * w))) ≡ sets l at (bytes (w + u) v)
+pub sets-split : (w u v at : ℕ) (l : List ℕ)
+    → sets (sets l at (bytes w (v % 2 ^ (8 * w)))) (at + w) (bytes u (v / 2 ^ (8 * w))) ≡ sets l at (bytes (w + u) v)
 sets-split w u v at l =
     let low : List ℕ = bytes w (v % 2 ^ (8 * w)) in
     let high : List ℕ = bytes u (v / 2 ^ (8 * w)) in
-    sym (ap (sets l at) (bytes-split w u v) ∙ sets-append l at low high ∙ ap (λ (k : ℕ). sets (sets l at low) (at + k) high) (length-bytes w (v % 2 ^ (8 * w))))
+    sym (ap (sets l at) (bytes-split w u v) ∙ sets-append l at low high
+    ∙ ap (λ (k : ℕ). sets (sets l at low) (at + k) high) (length-bytes w (v % 2 ^ (8 * w))))

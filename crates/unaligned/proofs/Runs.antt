@@ -33,7 +33,8 @@ numbers-at w zero bs j h = absurd (omega arith)
 numbers-at w (suc n) bs zero h = rw zero-mul
 numbers-at w (suc n) bs (suc j) h =
     let e : w + j * w ≡ suc j * w = omega (arith, suc-mul j w) in
-    numbers-at w n (drop w bs) j (omega arith) ∙ ap (λ (x : List ℕ). little (take w x)) (drop-drop (j * w) w bs ∙ ap (λ (x : ℕ). drop x bs) e)
+    numbers-at w n (drop w bs) j (omega arith)
+    ∙ ap (λ (x : List ℕ). little (take w x)) (drop-drop (j * w) w bs ∙ ap (λ (x : ℕ). drop x bs) e)
 
 pub number-read : (w n at : ℕ) (l : List ℕ) {i : ℕ} (place : ℕ) {v : ℕ} → i < n → place ≡ at + i * w → v ≡ little (take w (drop place l))
     → v ≡ getD (numbers w n (drop at l)) i 0
@@ -46,7 +47,8 @@ bytesOf-suc : (w : ℕ) (vs : List ℕ) (i : ℕ) → i < length vs → bytesOf 
 bytesOf-suc w [] i h = absurd (omega arith)
 bytesOf-suc w (v ∷ vs) zero h = append-nil (bytes w v)
 bytesOf-suc w (v ∷ vs) (suc i) h =
-    ap (_++_ (bytes w v)) (bytesOf-suc w vs i (omega arith)) ∙ sym (append-assoc (bytes w v) (bytesOf w (take i vs)) (bytes w (getD vs i 0)))
+    ap (_++_ (bytes w v)) (bytesOf-suc w vs i (omega arith))
+    ∙ sym (append-assoc (bytes w v) (bytesOf w (take i vs)) (bytes w (getD vs i 0)))
 
 -- of the n numbers to write from a place on, i are written
 pub record Written (w : ℕ) (vs : List ℕ) (n : ℕ) (old : List ℕ) (at : ℕ) (now : List ℕ) (i : ℕ) : Type 0 where
@@ -58,7 +60,8 @@ pub written-start : (w : ℕ) (vs : List ℕ) (n : ℕ) (old : List ℕ) (at : �
 written-start w vs n old at = record { high = omega arith; are = refl; lengthIs = refl }
 
 module _ {w : ℕ} {vs : List ℕ} {n : ℕ} {old : List ℕ} {at : ℕ} {now : List ℕ} {i : ℕ} where
-  pub written-turn : (next : List ℕ) (place : ℕ) → n ≤ length vs → i < n → place ≡ at + i * w → next ≡ sets now place (bytes w (getD vs i 0))
+  pub written-turn : (next : List ℕ) (place : ℕ) → n ≤ length vs → i < n → place ≡ at + i * w
+      → next ≡ sets now place (bytes w (getD vs i 0))
       → Written w vs n old at now i → Written w vs n old at next (i + 1)
   written-turn next place l h p e t =
       let done : List ℕ = bytesOf w (take i vs) in

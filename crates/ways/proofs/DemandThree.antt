@@ -43,18 +43,24 @@ use Rattle.rows.proofs.Theorems.{HasSet, one-row, open-iff, read-iff, write-set
 -- "Toggle them in any order from the empty filter; or build them from any split 01 allows, raised within 01's range at any time; or cut
 -- the list into groups, make a filter of each and combine these by symmetric difference in any order."
 
--- A builder's run, of the buckets bs, in slices that held p₀ and q₀, up to the answer r and the slices p and q: `Building n p₀ q₀ bs r p q`.
+-- A builder's run, of the buckets bs, in slices that held p₀ and q₀, up to the answer r and the slices p and q: `Building n p₀ q₀
+-- bs r p q`.
 -- Finishing does not end it: a builder may be pushed to again and finished again.
 pub data Building (n : ℕ) (p₀ q₀ : List ℕ) : List ℕ → Built → List ℕ → List ℕ → Type 0 where
-  begun : {p q : List ℕ} {r : Built} (split : ℕ) → split ≤ W (configAt n) → Ample n p₀ q₀ → News n split p₀ q₀ r p q → Building n p₀ q₀ [] r p q
-  pushed : {bs p q p′ q′ : List ℕ} {b : Builder} {r : Built} (cs : List ℕ) → Building n p₀ q₀ bs (Next b) p q → Pushes b p q cs r p′ q′ → Building n p₀ q₀ (bs ++ cs) r p′ q′
-  splitRaised : {bs p q : List ℕ} {b : Builder} {r : Built} (split : ℕ) → split ≤ W (configAt n) → Building n p₀ q₀ bs (Next b) p q → r ≡ raised b p q split → Building n p₀ q₀ bs r p q
+  begun : {p q : List ℕ} {r : Built} (split : ℕ) → split ≤ W (configAt n) → Ample n p₀ q₀ → News n split p₀ q₀ r p q
+      → Building n p₀ q₀ [] r p q
+  pushed : {bs p q p′ q′ : List ℕ} {b : Builder} {r : Built} (cs : List ℕ) → Building n p₀ q₀ bs (Next b) p q
+      → Pushes b p q cs r p′ q′ → Building n p₀ q₀ (bs ++ cs) r p′ q′
+  splitRaised : {bs p q : List ℕ} {b : Builder} {r : Built} (split : ℕ) → split ≤ W (configAt n)
+      → Building n p₀ q₀ bs (Next b) p q → r ≡ raised b p q split → Building n p₀ q₀ bs r p q
 
--- A filter's run, of the buckets bs, in slices that held t₀ and b₀, up to the answer r and the slices t and b: `Way n bs t₀ b₀ r t b`. Toggling
+-- A filter's run, of the buckets bs, in slices that held t₀ and b₀, up to the answer r and the slices t and b: `Way n bs t₀ b₀ r
+-- t b`. Toggling
 -- goes on from any filter, and the difference is that of any two.
 pub data Way (n : ℕ) : List ℕ → List ℕ → List ℕ → Made → List ℕ → List ℕ → Type 0 where
   emptied : {t₀ b₀ t b : List ℕ} {r : Made} → Lent n t₀ b₀ → Empties n t₀ b₀ r t b → Way n [] t₀ b₀ r t b
-  toggled : {bs t₀ b₀ t b t′ b′ : List ℕ} {f : Filter} {r : Made} (cs : List ℕ) → Way n bs t₀ b₀ (Ready f) t b → Toggles f t b cs r t′ b′ → Way n (bs ++ cs) t₀ b₀ r t′ b′
+  toggled : {bs t₀ b₀ t b t′ b′ : List ℕ} {f : Filter} {r : Made} (cs : List ℕ) → Way n bs t₀ b₀ (Ready f) t b
+      → Toggles f t b cs r t′ b′ → Way n (bs ++ cs) t₀ b₀ r t′ b′
   finished : {bs p₀ q₀ p q to toBits t b : List ℕ} {x : Builder} {r : Made}
       → Building n p₀ q₀ bs (Next x) p q → Lent n to toBits → Finishes x p q to toBits r t b → Way n bs to toBits r t b
   differed : {bs cs t₀ b₀ t b t₁ b₁ t₂ b₂ to toBits t′ b′ : List ℕ} {f g : Filter} {r : Made}
@@ -79,7 +85,8 @@ every-building {n} {p₀} {q₀} {p = p} {q} {r} k w (pushed {bs} cs X P) =
 every-building {n} {p₀} {q₀} {bs} k w (splitRaised split l X e) = raise-step n k (odd bs) p₀ q₀ (every-building k w X) split l e
 
 -- No call is refused, and record and slices are those of these buckets.
-pub every-way : {n : ℕ} {bs t₀ b₀ t b : List ℕ} {r : Made} → known n ≡ true → allBelow (W (configAt n)) bs ≡ true → Way n bs t₀ b₀ r t b → InPlace n (odd bs) t₀ b₀ r t b
+pub every-way : {n : ℕ} {bs t₀ b₀ t b : List ℕ} {r : Made} → known n ≡ true → allBelow (W (configAt n)) bs ≡ true
+    → Way n bs t₀ b₀ r t b → InPlace n (odd bs) t₀ b₀ r t b
 every-way {n} k w (emptied L M) = empty-step n k _ _ L M
 every-way {n} {t₀ = t₀} {b₀} {t} {b} {r} k w (toggled {bs} cs X M) =
     subst (λ (S : Set). InPlace n S t₀ b₀ r t b) (odd-flips bs cs)
@@ -87,7 +94,8 @@ every-way {n} {t₀ = t₀} {b₀} {t} {b} {r} k w (toggled {bs} cs X M) =
 every-way {n} {bs} {t₀} {b₀} k w (finished {p₀ = p₀} {q₀} X L F) = finish-step n k (odd bs) p₀ q₀ (every-building k w X) t₀ b₀ L F
 every-way {n} {t₀ = t₀} {b₀} {t} {b} {r} k w (differed {bs} {cs} {t₀ = u} {b₀ = a} {t₁ = u₁} {b₁ = a₁} X Y L M) =
     subst (λ (S : Set). InPlace n S t₀ b₀ r t b) (odd-apart bs cs)
-    (difference-step n k (odd bs) u a (odd cs) u₁ a₁ t₀ b₀ L (every-way k (below-first (W (configAt n)) bs cs w) X) (every-way k (below-second (W (configAt n)) bs cs w) Y) M)
+    (difference-step n k (odd bs) u a (odd cs) u₁ a₁ t₀ b₀ L (every-way k (below-first (W (configAt n)) bs cs w) X)
+    (every-way k (below-second (W (configAt n)) bs cs w) Y) M)
 
 -- what stands in the slices is the record and the areas of S, and what stood past the areas is as it was
 pub record Leaves (n : ℕ) (S : Set) (t₀ b₀ : List ℕ) (r : Made) (t b : List ℕ) : Type 0 where
@@ -160,7 +168,8 @@ module _ (n : ℕ) (k : known n ≡ true) (bs cs : List ℕ) (v : allBelow (W (c
         let Q = leaves (other-way Y) in
         (P .recordIs ∙ sym (Q .recordIs), P .topIs ∙ sym (Q .topIs), P .bitsAre ∙ sym (Q .bitsAre))
 
-    pub same-row : {f g : Filter} → Way n bs t₀ b₀ (Ready f) t b → Way n cs t₁ b₁ (Ready g) t′ b′ → (to to₁ : List ℕ) {a a′ : WriteAnswer} {x y : List ℕ} →
+    pub same-row : {f g : Filter} → Way n bs t₀ b₀ (Ready f) t b → Way n cs t₁ b₁ (Ready g) t′ b′
+        → (to to₁ : List ℕ) {a a′ : WriteAnswer} {x y : List ℕ} →
         let size = length (row (configAt n) (odd bs)) in
         size ≤ length to → size ≤ length to₁ → Writes f t b to a x → Writes g t′ b′ to₁ a′ y → (a ≡ a′) × (take size x ≡ take size y)
     same-row X Y to to₁ l l₁ M N =
@@ -179,7 +188,8 @@ answered {n} {bs} {t₀} {b₀} {t} {b} k w X = subst (λ (r : Made). Way n bs t
 
 -- There is a way for every list, in slices that are long enough: toggled from the empty filter. That a push has an outcome that its promise
 -- allows is what the proof of `push` shows; the other calls on builders promise equations.
-pub some-way : (n : ℕ) → known n ≡ true → (bs t₀ b₀ : List ℕ) → Lent n t₀ b₀ → (r : Made) × (t : List ℕ) × (b : List ℕ) × Way n bs t₀ b₀ r t b
+pub some-way : (n : ℕ) → known n ≡ true → (bs t₀ b₀ : List ℕ) → Lent n t₀ b₀
+    → (r : Made) × (t : List ℕ) × (b : List ℕ) × Way n bs t₀ b₀ r t b
 some-way n k bs t₀ b₀ L =
     let E : Way n [] t₀ b₀ _ _ _ = emptied L (record { answers = refl; tops = refl; blocks = refl }) in
     (_, _, _, toggled bs (answered k refl E) (record { answers = refl; tops = refl; blocks = refl }))

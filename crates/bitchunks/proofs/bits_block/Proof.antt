@@ -12,9 +12,10 @@ use Rattle.bitchunks.proofs.bits_block.Tie as tie
 
 returns : tie.Need-returns
 returns c =
-    let s = c .before .before in
-    let e : s .args .i - 0 ≡ s .args .i = omega arith in
-    sym (bits-in 0 _ (s .args .i) (omega arith) ∙ ap (λ (x : ℕ). getD (take (s .args .n) (now (s .args .blocks))) x 0) e ∙ getD-take (s .args .n) _ (s .args .i) 0 (c .before .if1 .taken))
+    let s = c .before .before .args in
+    let e : s .i - 0 ≡ s .i = omega arith in
+    sym (bits-in 0 _ _ (omega arith) ∙ ap (λ (x : ℕ). getD (take (s .n) (now (s .blocks))) x 0) e
+    ∙ getD-take _ _ _ 0 (c .before .if1 .taken))
 
 returns-2 : tie.Need-returns-2
 returns-2 c =

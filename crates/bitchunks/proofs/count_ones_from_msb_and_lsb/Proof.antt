@@ -1,4 +1,5 @@
--- `bitchunks::count_ones_from_msb_and_lsb` meets its contract: the blocks from the window's first one hold what the limited count adds. Assumes nothing.
+-- `bitchunks::count_ones_from_msb_and_lsb` meets its contract: the blocks from the window's first one hold what the limited count
+-- adds. Assumes nothing.
 use mathlib.Core.Path.{ap, _∙_}
 use Prim.Native.Nat.{ℕ, _-_}
 use native.Mathlib.Omega.{arith}
@@ -12,7 +13,12 @@ add-total c = omega (arith, members-few _ _ _ (c .count-ones .ensures))
 
 returns : tie.Need-returns
 returns c k edge top S z e H el =
-    filter-limited z H _ e _ _ _ _ _ _ el (c .before .before .before .lsb-index-lower-bound .ensures ∙ ap (λ (x : ℕ). x - c .before .before .before .before .before .before .args .window) (c .before .before .before .before .num-blocks .ensures)) (c .before .before .least .ensures) (c .before .count-ones .ensures) (c .bound-of .ensures)
+    let l = c .before .before in
+    let n = l .before .before in
+    filter-limited z H _ e _ _ _ _ _ _ el
+    (l .before .lsb-index-lower-bound .ensures
+    ∙ ap (λ (x : ℕ). x - n .before .before .args .window) (n .num-blocks .ensures))
+    (l .least .ensures) (c .before .count-ones .ensures) (c .bound-of .ensures)
 
 pub count-ones-from-msb-and-lsb-spec : {M : Type 1} → statement M
 count-ones-from-msb-and-lsb-spec =

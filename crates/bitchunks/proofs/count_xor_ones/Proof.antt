@@ -9,7 +9,8 @@ use Rattle.bitchunks.proofs.count_xor_ones.Tie as tie
 
 abbrev Inv-loop : tie.InvT-loop
 Inv-loop top count blocks n top2 count2 blocks2 n2 floor total₀ at₀ total at =
-    Total (filterSet top count blocks n) (filterSet top2 count2 blocks2 n2) floor (take count top) (take count2 top2) (at₀ .end) total (at .passed) (at .passed2) (at .end)
+    Total (filterSet top count blocks n) (filterSet top2 count2 blocks2 n2) floor (take count top) (take count2 top2)
+    (at₀ .end) total (at .passed) (at .passed2) (at .end)
 
 abbrev μ-loop : tie.MeasureT-loop
 μ-loop top count blocks n top2 count2 blocks2 n2 floor total₀ at₀ total at = at .end
@@ -19,21 +20,32 @@ loop-holds c = total-start (c .before .before .before .before .pre .0 .2) (c .be
 
 returns : tie.Need-returns Inv-loop μ-loop
 returns c =
-    let l = c .before .before .before .before .before .before .loop .inv in
-    total-end l _ (c .if1 .taken) (total-next l (c .before .before .before .block .given .1) (c .before .before .before .before .before .next-xor-chunk .ensures) .gap)
+    let b = c .before .before .before in
+    let n = b .before .before in
+    let l = n .before .loop .inv in
+    total-end l _ (c .if1 .taken) (total-next l (b .block .given .1) (n .next-xor-chunk .ensures) .gap)
 
 loop-less : tie.Need-loop-less Inv-loop μ-loop
 loop-less c =
-    let l = c .before .before .before .before .before .before .before .loop .inv in
-    total-next l (c .before .before .before .before .block .given .1) (c .before .before .before .before .before .before .next-xor-chunk .ensures) .under
+    let b = c .before .before .before .before in
+    let n = b .before .before in
+    let l = n .before .loop .inv in
+    total-next l (b .block .given .1) (n .next-xor-chunk .ensures) .under
 
 loop-again : tie.Need-loop-again Inv-loop μ-loop
 loop-again c =
-    let l = c .before .before .before .before .before .before .before .loop .inv in
-    total-turn l _ (total-next l (c .before .before .before .before .block .given .1) (c .before .before .before .before .before .before .next-xor-chunk .ensures)) (omega arith) (c .ones-of .ensures)
+    let b = c .before .before .before .before in
+    let n = b .before .before in
+    let l = n .before .loop .inv in
+    total-turn l _ (total-next l (b .block .given .1) (n .next-xor-chunk .ensures)) (omega arith)
+    (c .ones-of .ensures)
 
 add-total : tie.Need-add-total Inv-loop μ-loop
-add-total c = omega (arith, total-few (loop-again c), c .before .before .before .before .before .before .before .before .before .before .before .before .pre .0 .2 .small)
+add-total c =
+    let k = c .before .before .before .before .before in
+    let j = k .before .before .before .before in
+    let s = j .before .before .before in
+    omega (arith, total-few (loop-again c), s .pre .0 .2 .small)
 
 returns-2 : tie.Need-returns-2 Inv-loop μ-loop
 returns-2 c =

@@ -10,7 +10,8 @@ use Rattle.bitchunks.proofs.first_xor_ones.Tie as tie
 
 abbrev Inv-loop : tie.InvT-loop
 Inv-loop top count blocks n top2 count2 blocks2 n2 m total₀ at₀ total at =
-    Total (filterSet top count blocks n) (filterSet top2 count2 blocks2 n2) 0 (take count top) (take count2 top2) (at₀ .end) total (at .passed) (at .passed2) (at .end) × (total < m)
+    Total (filterSet top count blocks n) (filterSet top2 count2 blocks2 n2) 0 (take count top) (take count2 top2) (at₀ .end) total
+    (at .passed) (at .passed2) (at .end) × (total < m)
 
 abbrev μ-loop : tie.MeasureT-loop
 μ-loop top count blocks n top2 count2 blocks2 n2 m total₀ at₀ total at = at .end
@@ -22,30 +23,43 @@ loop-holds c =
 
 add-total : tie.Need-add-total Inv-loop μ-loop
 add-total c =
-    let l = c .before .before .before .before .before .loop .inv in
-    let x = total-next (l .0) (c .before .before .block .given .1) (c .before .before .before .before .next-xor-chunk .ensures) in
-    omega (arith, total-few (total-turn (l .0) _ x (omega arith) (c .ones-of .ensures)), c .before .before .before .before .before .before .before .before .before .before .pre .0 .2 .small)
+    let b = c .before .before in
+    let n = b .before .before in
+    let k = n .before .before .before in
+    let s = k .before .before .before in
+    let l = n .before .loop .inv in
+    let x = total-next (l .0) (b .block .given .1) (n .next-xor-chunk .ensures) in
+    omega (arith, total-few (total-turn (l .0) _ x (omega arith) (c .ones-of .ensures)), s .pre .0 .2 .small)
 
 blocks-for-last-requires : tie.Need-blocks-for-last-requires Inv-loop μ-loop
 blocks-for-last-requires c κs =
-    let l = c .before .before .before .before .before .before .loop .inv in
-    total-next (l .0) (c .before .before .before .block .given .1) (c .before .before .before .before .before .next-xor-chunk .ensures) .ahead .small
+    let b = c .before .before .before in
+    let n = b .before .before in
+    let l = n .before .loop .inv in
+    total-next (l .0) (b .block .given .1) (n .next-xor-chunk .ensures) .ahead .small
 
 returns : tie.Need-returns Inv-loop μ-loop
 returns c =
-    let l = c .before .before .before .before .before .before .before .loop .inv in
-    let x = total-next (l .0) (c .before .before .before .before .block .given .1) (c .before .before .before .before .before .before .next-xor-chunk .ensures) in
-    first-full _ _ (l .0) (l .1) x (c .before .before .ones-of .ensures) (c .before .if1 .taken) (c .blocks-for-last .ensures)
+    let o = c .before .before in
+    let b = o .before .before in
+    let n = b .before .before in
+    let l = n .before .loop .inv in
+    let x = total-next (l .0) (b .block .given .1) (n .next-xor-chunk .ensures) in
+    first-full _ _ (l .0) (l .1) x (o .ones-of .ensures) (c .before .if1 .taken) (c .blocks-for-last .ensures)
 
 loop-less : tie.Need-loop-less Inv-loop μ-loop
 loop-less c =
-    let l = c .before .before .before .before .before .before .loop .inv in
-    total-next (l .0) (c .before .before .before .block .given .1) (c .before .before .before .before .before .next-xor-chunk .ensures) .under
+    let b = c .before .before .before in
+    let n = b .before .before in
+    let l = n .before .loop .inv in
+    total-next (l .0) (b .block .given .1) (n .next-xor-chunk .ensures) .under
 
 loop-again : tie.Need-loop-again Inv-loop μ-loop
 loop-again c =
-    let l = c .before .before .before .before .before .before .loop .inv in
-    let x = total-next (l .0) (c .before .before .before .block .given .1) (c .before .before .before .before .before .next-xor-chunk .ensures) in
+    let b = c .before .before .before in
+    let n = b .before .before in
+    let l = n .before .loop .inv in
+    let x = total-next (l .0) (b .block .given .1) (n .next-xor-chunk .ensures) in
     (total-turn (l .0) _ x (omega arith) (c .before .ones-of .ensures), c .if1 .left)
 
 returns-2 : tie.Need-returns-2 Inv-loop μ-loop

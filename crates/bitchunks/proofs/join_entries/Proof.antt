@@ -12,7 +12,8 @@ use Rattle.bitchunks.proofs.join_entries.Statement.{statement}
 use Rattle.bitchunks.proofs.join_entries.Tie as tie
 
 abbrev Inv-loop : tie.InvT-loop
-Inv-loop row width count passed i bits block₀ at₀ block at = (S : Set) → Merging S (numbers width count row) i passed bits → Merging S (numbers width count row) i at block
+Inv-loop row width count passed i bits block₀ at₀ block at =
+    (S : Set) → Merging S (numbers width count row) i passed bits → Merging S (numbers width count row) i at block
 
 abbrev μ-loop : tie.MeasureT-loop
 μ-loop row width count passed i bits block₀ at₀ block at = count - at
@@ -25,16 +26,20 @@ row-entry-requires c κs = (c .before .before .before .pre .0, entry-room _ (c .
 
 returns : tie.Need-returns Inv-loop μ-loop
 returns c S t =
-    let l = c .before .before .before .loop-test .taken in
-    merge-stop (c .before .before .before .before .loop .inv S t) _ (length-numbers _ _ _) l (entry-at _ l _ _ (c .before .before .row-entry .ensures))
+    let r = c .before .before in
+    let l = r .before .loop-test .taken in
+    merge-stop (r .before .before .loop .inv S t) _ (length-numbers _ _ _) l
+    (entry-at _ l _ _ (r .row-entry .ensures))
     (λ e. c .if1 .taken (c .before .into-index .ensures ∙ e))
 
 loop-again : tie.Need-loop-again Inv-loop μ-loop
 loop-again c S t =
-    let l = c .before .before .before .before .loop-test .taken in
+    let i = c .before .before in
+    let k = i .before .before in
+    let l = k .loop-test .taken in
     subst (Merging S _ _ _) (sym (c .with-bucket .ensures))
-    (merge-turn (c .before .before .before .before .before .loop .inv S t) _ (length-numbers _ _ _) l
-    (entry-at _ l _ _ (c .before .before .before .row-entry .ensures)) (sym (c .before .before .into-index .ensures) ∙ c .before .if1 .left))
+    (merge-turn (k .before .loop .inv S t) _ (length-numbers _ _ _) l
+    (entry-at _ l _ _ (i .before .row-entry .ensures)) (sym (i .into-index .ensures) ∙ c .before .if1 .left))
 
 returns-2 : tie.Need-returns-2 Inv-loop μ-loop
 returns-2 c S t = merge-end (c .before .loop .inv S t) (length-numbers _ _ _) (c .loop-test .left)

@@ -28,11 +28,14 @@ returns c =
 
 loop-again : tie.Need-loop-again Inv-loop μ-loop
 loop-again c =
-    let k = c .before .before .before .before .before .before in
-    let s = k .before .before .before .before in
-    let l = c .before .before .before .before .before .loop-test .taken in
+    let i = c .before .before in
+    let t = i .before .before .before in
+    let s = t .before .before .before .before .before in
+    let l = t .loop-test .taken in
     subst (Merging _ _ _ _) (sym (c .with-bucket .ensures))
-    (merge-turn (k .loop .inv) _ (cell-count _ _ (s .pre .0)) l (cell-entry _ _ (s .pre .0) _ _ l (c .before .before .before .into-usize .ensures)) (sym (c .before .before .into-index .ensures) ∙ c .before .if1 .left))
+    (merge-turn (t .before .loop .inv) _ (cell-count _ _ (s .pre .0)) l
+    (cell-entry _ _ (s .pre .0) _ _ l (i .before .into-usize .ensures))
+    (sym (i .into-index .ensures) ∙ c .before .if1 .left))
 
 returns-2 : tie.Need-returns-2 Inv-loop μ-loop
 returns-2 c = merge-end (c .before .loop .inv) (cell-count _ _ (c .before .before .before .before .before .pre .0)) (c .loop-test .left)

@@ -8,7 +8,8 @@ use Rattle.bitchunks.proofs.next_masked_chunk.Statement.{statement}
 use Rattle.bitchunks.proofs.next_masked_chunk.Tie as tie
 
 abbrev Inv-loop : tie.InvT-loop
-Inv-loop top count blocks n mask size passed₀ end₀ passed end = Skipping (filterSet top count blocks n) (take count top) mask size end₀ passed end
+Inv-loop top count blocks n mask size passed₀ end₀ passed end =
+    Skipping (filterSet top count blocks n) (take count top) mask size end₀ passed end
 
 abbrev μ-loop : tie.MeasureT-loop
 μ-loop top count blocks n mask size passed₀ end₀ passed end = end
@@ -23,15 +24,17 @@ next-chunk-requires c κs =
 
 masked-block-requires : tie.Need-masked-block-requires Inv-loop μ-loop
 masked-block-requires c κs =
-    let k = c .before in
-    let t = k .before .before .before .loop .inv in
-    let s = k .before .before .before .before .before .before in
-    (s .pre .1, omega (arith, t .ahead .small, skip-under t (k .block .given .1) (k .before .before .next-chunk .ensures)))
+    let n = c .before .before .before in
+    let s = n .before .before .before .before in
+    let t = n .before .loop .inv in
+    (s .pre .1, omega (arith, t .ahead .small, skip-under t (c .before .block .given .1) (n .next-chunk .ensures)))
 
 returns : tie.Need-returns Inv-loop μ-loop
 returns c =
     let k = c .before .before .before in
-    skip-end (k .before .before .before .loop .inv) (k .block .given .1) (k .before .before .next-chunk .ensures) (c .before .masked-block .ensures) (c .if1 .taken)
+    let n = k .before .before in
+    skip-end (n .before .loop .inv) (k .block .given .1) (n .next-chunk .ensures) (c .before .masked-block .ensures)
+    (c .if1 .taken)
 
 loop-less : tie.Need-loop-less Inv-loop μ-loop
 loop-less c =
@@ -41,7 +44,9 @@ loop-less c =
 loop-again : tie.Need-loop-again Inv-loop μ-loop
 loop-again c =
     let k = c .before .before .before in
-    skip-turn (k .before .before .before .loop .inv) (k .block .given .1) (k .before .before .next-chunk .ensures) (c .before .masked-block .ensures) (c .if1 .left)
+    let n = k .before .before in
+    skip-turn (n .before .loop .inv) (k .block .given .1) (n .next-chunk .ensures)
+    (c .before .masked-block .ensures) (c .if1 .left)
 
 returns-2 : tie.Need-returns-2 Inv-loop μ-loop
 returns-2 c =

@@ -28,12 +28,14 @@ loop-less c =
 loop-again : tie.Need-loop-again Inv-loop μ-loop
 loop-again c =
     let k = c .before .before .before in
-    seek-turn (k .before .before .loop .inv) (k .before .loop-test .taken) (subst (Next _ _ _) (c .before .next .given .1) (k .next-row-chunk .ensures))
+    seek-turn (k .before .before .loop .inv) (k .before .loop-test .taken)
+    (subst (Next _ _ _) (c .before .next .given .1) (k .next-row-chunk .ensures))
 
 returns : tie.Need-returns Inv-loop μ-loop
 returns c =
     let k = c .before .before in
-    seek-none (k .before .before .loop .inv) (k .before .loop-test .taken) (subst (Next _ _ _) (c .enum-told .given .1) (k .next-row-chunk .ensures))
+    seek-none (k .before .before .loop .inv) (k .before .loop-test .taken)
+    (subst (Next _ _ _) (c .enum-told .given .1) (k .next-row-chunk .ensures))
 
 take-one-requires : tie.Need-take-one-requires Inv-loop μ-loop
 take-one-requires c κs = (omega (arith, c .loop-test .left), c .before .loop .inv .ahead .small)

@@ -6,10 +6,12 @@ use Rattle.bitchunks.proofs.reach.Tie as tie
 
 returns : tie.Need-returns
 returns c bits e =
-    let s = c .before .before .before .before .before .before .before in
-    let l = c .before .before .before .before .if1 .taken in
-    reach-entry (s .pre .2) (c .before .before .before .before .before .bits-end .ensures) bits e _ _ _ (cell-count _ _ (s .pre .0)) l
-    (cell-entry _ _ (s .pre .0) _ _ l (c .before .before .into-usize .ensures)) (c .before .into-index .ensures) (c .most .ensures)
+    let i = c .before .before in
+    let k = i .before .before in
+    let s = k .before .before .before in
+    let l = k .if1 .taken in
+    reach-entry (s .pre .2) (k .before .bits-end .ensures) bits e _ _ _ (cell-count _ _ (s .pre .0)) l
+    (cell-entry _ _ (s .pre .0) _ _ l (i .into-usize .ensures)) (c .before .into-index .ensures) (c .most .ensures)
 
 returns-2 : tie.Need-returns-2
 returns-2 c bits e =

@@ -14,13 +14,16 @@ returns c = sym (bits-under _ _ _ (c .if1 .taken))
 returns-2 : tie.Need-returns-2
 returns-2 c =
     let a = c .before .before .before .before .before .args in
-    sym (block-past (a .layout .first) (a .layout .n) (a .layout .at) (a .i) (now (a .row)) (c .if2 .taken))
+    sym (block-past (a .layout .first) (a .layout .n) (a .layout .at) _ (now (a .row)) (c .if2 .taken))
 
 returns-3 : tie.Need-returns-3
 returns-3 c =
-    let a = c .before .before .before .before .before .before .before .before .args in
+    let i = c .before .before .before in
+    let k = i .before .before in
+    let a = k .before .before .before .args in
     c .read-u64 .ensures
-    ∙ block-at (a .layout .first) (a .layout .n) (a .layout .at) (a .i) (now (a .row)) (c .before .before .before .before .before .if1 .left) (omega (arith, c .before .before .before .if2 .left))
+    ∙ block-at (a .layout .first) (a .layout .n) (a .layout .at) _ (now (a .row)) (k .if1 .left)
+    (omega (arith, i .if2 .left))
 
 pub row-block-spec : {M : Type 1} → statement M
 row-block-spec =

@@ -7,14 +7,18 @@ use Rattle.bitchunks.proofs.row_reach.Statement.{statement}
 use Rattle.bitchunks.proofs.row_reach.Tie as tie
 
 row-entry-requires : tie.Need-row-entry-requires
-row-entry-requires c κs = (c .before .before .before .before .pre .0 .width, entry-room _ (c .if1 .taken) (c .before .before .before .before .pre .0 .entriesIn))
+row-entry-requires c κs =
+    let s = c .before .before .before .before in
+    (s .pre .0 .width, entry-room _ (c .if1 .taken) (s .pre .0 .entriesIn))
 
 returns : tie.Need-returns
 returns c =
-    let s = c .before .before .before .before .before .before .before in
-    let l = c .before .before .before .if1 .taken in
-    reach-entry (s .pre .1) (c .before .before .before .before .before .bits-end .ensures) _ (length-numbers 8 _ _) _ _ _ (length-numbers _ _ _) l
-    (entry-at _ l _ _ (c .before .before .row-entry .ensures)) (c .before .into-index .ensures) (c .most .ensures)
+    let r = c .before .before in
+    let b = r .before .before .before in
+    let l = r .before .if1 .taken in
+    reach-entry (b .before .before .pre .1) (b .bits-end .ensures) _ (length-numbers 8 _ _) _ _ _
+    (length-numbers _ _ _) l
+    (entry-at _ l _ _ (r .row-entry .ensures)) (c .before .into-index .ensures) (c .most .ensures)
 
 returns-2 : tie.Need-returns-2
 returns-2 c =

@@ -11,9 +11,11 @@ use Rattle.bitchunks.proofs.take_one.Tie as tie
 
 returns : tie.Need-returns
 returns c S tops a =
-    let s = c .before .before .before in (
-      rest-one S _ _ _ (c .before .before .from-block-msb .ensures)
-          ∙ ap₂ (λ (p x : ℕ). p ∷ rest S (s .args .end) (bitXor (s .args .block) x)) (sym (c .before .into-bucket .ensures)) (sym (c .into-block .ensures)),
+    let f = c .before .before in
+    let s = f .before in (
+      rest-one S _ _ _ (f .from-block-msb .ensures)
+          ∙ ap₂ (λ (p x : ℕ). p ∷ rest S (s .args .end) (bitXor (s .args .block) x))
+          (sym (c .before .into-bucket .ensures)) (sym (c .into-block .ensures)),
       a,
     )
 

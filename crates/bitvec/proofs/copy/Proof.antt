@@ -19,8 +19,9 @@ loop-holds c = fill-start _ _ _ 0 (omega arith) refl refl
 
 loop-again : tie.Need-loop-again Inv-loop μ-loop
 loop-again c =
-    let s = c .before .before .before in
-    fill-turn _ (s .pre .0) (c .before .loop-test .taken) (take-suc (s .args .source .now) (c .before .before .loop .i) 0 (omega arith)) (c .before .before .loop .inv)
+    let l = c .before .before in
+    fill-turn _ (l .before .pre .0) (c .before .loop-test .taken) (take-suc _ (l .loop .i) 0 (omega arith))
+    (l .loop .inv)
 
 returns : tie.Need-returns Inv-loop μ-loop
 returns c = fill-end (c .loop-test .left) (c .before .loop .inv)

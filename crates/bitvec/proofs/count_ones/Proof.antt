@@ -18,7 +18,7 @@ loop-holds c = count-start _ _ _ (omega arith)
 loop-again : tie.Need-loop-again Inv-loop μ-loop
 loop-again c =
     let k = c .before .before .before in
-    count-turn (c .ones-of .result) (omega arith) (c .before .shared-slice-known2 .given (k .loop .i) .fits) (c .ones-of .ensures) (k .loop .inv)
+    count-turn _ (omega arith) (c .before .shared-slice-known2 .given (k .loop .i) .fits) (c .ones-of .ensures) (k .loop .inv)
 
 add-total : tie.Need-add-total Inv-loop μ-loop
 add-total c = omega (arith, loop-again c .few)

@@ -24,10 +24,12 @@ loop-holds c = count-start _ _ _ (omega arith)
 loop-again : tie.Need-loop-again Inv-loop μ-loop
 loop-again c =
     let k = c .before .before .before in
-    let s = k .before .before in
-    let e : c .before .read-u64 .result ≡ getD (numbers 8 (s .args .n) (drop (s .args .at) (now (s .args .from)))) (k .loop .i) 0 =
-    number-read 8 (s .args .n) (s .args .at) (now (s .args .from)) (s .args .at + 8 * k .loop .i) (omega arith) (omega arith) (c .before .read-u64 .ensures) in
-    count-turn (c .ones-of .result) (omega arith) (subst (λ (x : ℕ). x < 2 ^ 64) e (omega arith)) (c .ones-of .ensures ∙ ap ones e) (k .loop .inv)
+    let s = k .before .before .args in
+    let e : c .before .read-u64 .result ≡ getD (numbers 8 (s .n) (drop (s .at) (now (s .from)))) (k .loop .i) 0 =
+    number-read 8 (s .n) (s .at) (now (s .from)) (s .at + 8 * k .loop .i) (omega arith) (omega arith)
+    (c .before .read-u64 .ensures) in
+    count-turn (c .ones-of .result) (omega arith) (subst (λ (x : ℕ). x < 2 ^ 64) e (omega arith))
+    (c .ones-of .ensures ∙ ap ones e) (k .loop .inv)
 
 add-total : tie.Need-add-total Inv-loop μ-loop
 add-total c = omega (arith, loop-again c .few)

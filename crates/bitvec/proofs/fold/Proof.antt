@@ -12,8 +12,9 @@ toggle-all-requires c κs =
 
 returns : tie.Need-returns
 returns c =
-    let s = c .before .before .before .before .before .before in
-    folded _ _ _ _ _ (s .pre .1) (s .pre .2) (c .before .before .toggle-all .ensures)
+    let t = c .before .before in
+    let s = t .before .before .before .before in
+    folded _ _ _ _ _ (s .pre .1) (s .pre .2) (t .toggle-all .ensures)
 
 pub fold-spec : {M : Type 1} → statement M
 fold-spec = tie.close (tie.spec toggle-all-requires (λ c. search needs) returns)

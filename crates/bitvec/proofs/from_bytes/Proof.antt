@@ -23,7 +23,8 @@ loop-again c =
     let k = c .before .before in
     let s = k .before .before .before in
     fill-turn (c .read-u64 .result) (s .pre .0) (c .before .loop-test .taken)
-    (numbers-next 8 (k .loop .i) (s .args .at) (s .args .from .now) (s .args .at + 8 * k .loop .i) (c .read-u64 .result) (omega arith) (c .read-u64 .ensures))
+    (numbers-next 8 (k .loop .i) (s .args .at) (s .args .from .now) (s .args .at + 8 * k .loop .i)
+    (c .read-u64 .result) (omega arith) (c .read-u64 .ensures))
     (k .loop .inv)
 
 returns : tie.Need-returns Inv-loop μ-loop

@@ -21,15 +21,19 @@ loop-holds c = start _ _ _ _
 
 returns : tie.Need-returns Inv-loop μ-loop
 returns c =
+    let i = c .before .before .before in
+    let k = i .before .before in
     let o = c .before .occupied .ensures in
-    let k = c .before .before .before .before .before in
-    emptied (k .before .before .before .pre) (k .loop .inv) (c .before .before .before .if1 .taken) _ (o .0) (o .1) (omega arith) (omega arith)
+    emptied (k .before .before .before .pre) (k .loop .inv) (i .if1 .taken) _ (o .0) (o .1) (omega arith)
+    (omega arith)
 
 loop-again : tie.Need-loop-again Inv-loop μ-loop
 loop-again c =
-    let o = c .before .before .occupied .ensures in
-    let k = c .before .before .before .before .before .before in
-    down (k .before .before .before .pre) (k .loop .inv) (c .before .before .before .before .if1 .taken) _ (o .0) (o .1) (omega arith)
+    let k = c .before .before in
+    let i = k .before .before in
+    let l = i .before .before in
+    let o = k .occupied .ensures in
+    down (l .before .before .before .pre) (l .loop .inv) (i .if1 .taken) _ (o .0) (o .1) (omega arith)
 
 into-block-requires : tie.Need-into-block-requires Inv-loop μ-loop
 into-block-requires c κs = c .from-block-msb .ensures .small
@@ -50,7 +54,8 @@ loop-again-2 : tie.Need-loop-again-2 Inv-loop μ-loop
 loop-again-2 c =
     let b = c .before .before in
     let k = b .before .before .before in
-    turn (k .before .before .before .pre) (k .loop .inv) _ (omega arith) (index (b .before)) (b .from-block-msb .ensures) _ _ (c .into-bucket .ensures) (c .before .into-block .ensures)
+    turn (k .before .before .before .pre) (k .loop .inv) _ (omega arith) (index (b .before))
+    (b .from-block-msb .ensures) _ _ (c .into-bucket .ensures) (c .before .into-block .ensures)
 
 returns-2 : tie.Need-returns-2 Inv-loop μ-loop
 returns-2 c = full (c .before .before .before .before .pre) (c .before .loop .inv) (c .loop-test .left)

@@ -6,7 +6,7 @@ use Rattle.bitvec.proofs.ones_of.Statement.{statement}
 use Rattle.bitvec.proofs.ones_of.Tie as tie
 
 cast-result : tie.Need-cast-result
-cast-result c = omega (arith, ones-le 64 (c .args .block) (c .fits .block .fits))
+cast-result c = omega (arith, ones-le 64 _ (c .fits .block .fits))
 
 pub ones-of-spec : {M : Type 1} → statement M
 ones-of-spec = tie.close (tie.spec cast-result (λ c. search needs))

@@ -10,7 +10,8 @@ returns c =
     let k = g .before .before in
     let l = k .before .before .before .before in
     let s = l .before .before .before .before .before in
-    areas (s .pre .0) (s .pre .1 .0) (s .pre .1 .1) (l .lift .ensures) (g .zero-cells .ensures) (λ i. k .slice-known4 .given i .fits) _ (c .into-usize .ensures)
+    areas (s .pre .0) (s .pre .1 .0) (s .pre .1 .1) (l .lift .ensures) (g .zero-cells .ensures)
+    (λ i. k .slice-known4 .given i .fits) _ (c .into-usize .ensures)
 
 pub split-spec : {M : Type 1} → statement M
 split-spec =

@@ -19,13 +19,14 @@ toggle-requires : tie.Need-toggle-requires Inv-loop μ-loop
 toggle-requires c κs =
     let k = c .before .before .before .before in
     let s = k .before .before .before in
-    flip-fits (k .loop .inv) (c .into-usize .result) (omega arith) (s .pre .0) (c .into-usize .ensures) (s .pre .1)
+    flip-fits (k .loop .inv) _ (omega arith) (s .pre .0) (c .into-usize .ensures) (s .pre .1)
 
 loop-again : tie.Need-loop-again Inv-loop μ-loop
 loop-again c =
-    let u = c .before .before .before in
-    let k = u .before .before .before .before in
-    flip-turn (k .loop .inv) (u .into-usize .result) (omega arith) (k .before .before .before .pre .0) (u .into-usize .ensures) _ (c .before .before .toggle .ensures)
+    let t = c .before .before in
+    let k = t .before .before .before .before .before in
+    flip-turn (k .loop .inv) _ (omega arith) (k .before .before .before .pre .0) (t .before .into-usize .ensures) _
+    (t .toggle .ensures)
 
 returns : tie.Need-returns Inv-loop μ-loop
 returns c = flip-end (c .before .loop .inv) (c .loop-test .left)

@@ -8,9 +8,7 @@ use Rattle.bitvec.proofs.write.Statement.{statement}
 use Rattle.bitvec.proofs.write.Tie as tie
 
 returns : tie.Need-returns
-returns c =
-    let s = c .before .before .before in
-    part-none (s .args .boundary) (s .args .blocks .now) (s .args .to .now) (s .args .at) (c .if1 .taken)
+returns c = part-none _ _ _ _ (c .if1 .taken)
 
 slice-write-to : tie.Need-slice-write-to
 slice-write-to c =
@@ -19,9 +17,10 @@ slice-write-to c =
 
 write-blocks-requires : tie.Need-write-blocks-requires
 write-blocks-requires c κs =
-    let s = c .before .before .before .before .before .before in (
+    let i = c .before .before .before in
+    let s = i .before .before .before in (
       omega arith,
-      simp length-set (omega (arith, part-length (s .args .boundary) (s .args .blocks .now) (c .before .before .before .if1 .left), s .pre .1 .1)),
+      simp length-set (omega (arith, part-length (s .args .boundary) (s .args .blocks .now) (i .if1 .left), s .pre .1 .1)),
     )
 
 same-length : tie.Need-same-length
@@ -32,9 +31,9 @@ returns-2 c =
     let u = c .before .before .before .before in
     let k = u .before in
     let s = k .before .before .before .before in
-    part-some (s .args .boundary) (s .args .blocks .now) (k .before .if1 .left)
+    part-some _ _ (k .before .if1 .left)
     (s .pre .0 .1) (λ i. k .before .before .shared-slice-known .given i .fits) (s .pre .1 .0)
-    (s .args .to .now) (s .args .at) (k .num-blocks .result) (u .unoccupied-bits .result) _
+    _ _ _ _ _
     (k .num-blocks .ensures) (u .unoccupied-bits .ensures) (c .before .before .write-blocks .ensures)
 
 pub write-spec : {M : Type 1} → statement M

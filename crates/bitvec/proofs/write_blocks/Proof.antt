@@ -16,9 +16,11 @@ loop-holds c = written-start _ _ _ _ _
 
 loop-again : tie.Need-loop-again Inv-loop μ-loop
 loop-again c =
-    let k = c .before .before .before .before .before .before in
+    let w = c .before .before in
+    let k = w .before .before .before .before in
     let s = k .before .before .before in
-    written-turn _ (s .args .at + 8 * k .loop .i) (s .pre .0) (omega arith) (omega arith) (c .before .before .write-u64 .ensures) (k .loop .inv)
+    written-turn _ (s .args .at + 8 * k .loop .i) (s .pre .0) (omega arith) (omega arith) (w .write-u64 .ensures)
+    (k .loop .inv)
 
 returns : tie.Need-returns Inv-loop μ-loop
 returns c = written-end (c .loop-test .left) (c .before .loop .inv)

@@ -9,37 +9,41 @@ use Rattle.builder.proofs.new.Tie as tie
 returns : tie.Need-returns
 returns c =
     let k = c .before .before .before in
-    let a = k .before .before .before .before .before .args in
-    new-past (a .config) (a .split) (a .pending .now) (a .bits .now) (k .s .given .0 .0) (sym (k .before .before .areas .ensures) ∙ k .s .given .1) (c .if1 .taken)
+    new-past _ _ _ _ _ (sym (k .before .before .areas .ensures) ∙ k .s .given .1) (c .if1 .taken)
 
 mul-zero-cells : tie.Need-mul-zero-cells
 mul-zero-cells c =
     let k = c .before .before .before .before .before in
     let a = k .before .before .before .before .before .args in
-    omega (arith, new-asks (a .config) (a .split) (a .pending .now) (a .bits .now) (k .s .given .0 .0) (sym (k .before .before .areas .ensures) ∙ k .s .given .1) .0)
+    let e = sym (k .before .before .areas .ensures) ∙ k .s .given .1 in
+    omega (arith, new-asks (a .config) (a .split) (a .pending .now) (a .bits .now) (k .s .given .0 .0) e .0)
 
 zero-cells-requires : tie.Need-zero-cells-requires
 zero-cells-requires c κs =
     let k = c .before .before .before .before .before in
     let a = k .before .before .before .before .before .args in
-    (omega arith, new-asks (a .config) (a .split) (a .pending .now) (a .bits .now) (k .s .given .0 .0) (sym (k .before .before .areas .ensures) ∙ k .s .given .1) .0)
+    let e = sym (k .before .before .areas .ensures) ∙ k .s .given .1 in
+    (omega arith, new-asks _ (a .split) (a .pending .now) (a .bits .now) _ e .0)
 
 zero-blocks-requires : tie.Need-zero-blocks-requires
 zero-blocks-requires c κs =
-    let k = c .before .before .before .before .before .before .before .before .before in
+    let z = c .before .before .before .before in
+    let k = z .before .before .before .before .before in
     let a = k .before .before .before .before .before .args in
-    (omega arith, new-asks (a .config) (a .split) (a .pending .now) (a .bits .now) (k .s .given .0 .0) (sym (k .before .before .areas .ensures) ∙ k .s .given .1) .1)
+    let e = sym (k .before .before .areas .ensures) ∙ k .s .given .1 in
+    (omega arith, new-asks _ (a .split) (a .pending .now) (a .bits .now) _ e .1)
 
 returns-2 : tie.Need-returns-2
 returns-2 c =
-    let k = c .before .before .before .before .before .before .before .before .before .before .before .before in
-    let a = k .before .before .before .before .before .args in
-    new-next (a .config) (a .split) (a .pending .now) (a .bits .now) (k .s .given .0 .0) (sym (k .before .before .areas .ensures) ∙ k .s .given .1) (c .before .before .before .before .before .before .before .before .before .if1 .left) (c .before .before .before .before .before .before .zero-cells .ensures) (c .before .before .zero-blocks .ensures)
+    let z = c .before .before in
+    let k = z .before .before .before .before in
+    let i = k .before .before .before in
+    let j = i .before .before .before in
+    new-next _ _ _ _ _ (sym (j .before .before .areas .ensures) ∙ j .s .given .1) (i .if1 .left)
+    (k .zero-cells .ensures) (z .zero-blocks .ensures)
 
 returns-3 : tie.Need-returns-3
-returns-3 c =
-    let a = c .before .before .before .before .before .before .args in
-    new-refused (a .config) (a .split) (a .pending .now) (a .bits .now) (c .before .r .given .0 .0) (sym (c .before .before .before .areas .ensures) ∙ c .before .r .given .1)
+returns-3 c = new-refused _ _ _ _ _ (sym (c .before .before .before .areas .ensures) ∙ c .before .r .given .1)
 
 pub new-spec : {M : Type 1} → statement M
 new-spec =

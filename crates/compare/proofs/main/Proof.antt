@@ -8,7 +8,9 @@ array-share-prefix-out : tie.Need-array-share-prefix-out
 array-share-prefix-out c = written-in (c .before .before .before .before .compare-text .ensures) (c .before .m .given .1)
 
 slice-aggregate-write-all : tie.Need-slice-aggregate-write-all
-slice-aggregate-write-all c = written-length (c .before .before .before .before .before .compare-text .ensures) (c .before .before .m .given .1)
+slice-aggregate-write-all c =
+    let k = c .before .before in
+    written-length (k .before .before .before .compare-text .ensures) (k .m .given .1)
 
 pub main-spec : {M : Type 1} → statement M
 main-spec =

@@ -1,4 +1,5 @@
--- `compare_text::compare_text` meets its contract: the text of the answer is made in an array, and copied where there is room. Assumes nothing.
+-- `compare_text::compare_text` meets its contract: the text of the answer is made in an array, and copied where there is room.
+-- Assumes nothing.
 use mathlib.Core.Path.{sym}
 use Prim.Native.Nat.{_≤_}
 use native.Mathlib.Omega.{arith}
@@ -17,7 +18,8 @@ returns c =
     too-short (now (a .input)) (now (a .out)) (p .before .judged-input .ensures) (p .put-judged .ensures) (omega arith) (c .if1 .taken)
 
 -- the text is no longer than the array
-part-in : (c : tie.After-text3) → c .before .before .before .before .put-judged .result ≤ length (c .before .before .before .before .put-judged .last .0)
+part-in : (c : tie.After-text3)
+    → c .before .before .before .before .put-judged .result ≤ length (c .before .before .before .before .put-judged .last .0)
 part-in c = omega arith
 
 slice-aggregate-put : tie.Need-slice-aggregate-put
@@ -28,9 +30,12 @@ put-requires c κs = omega (arith, slice-aggregate-put c)
 
 returns-2 : tie.Need-returns-2
 returns-2 c =
-    let p = c .before .before .before .before .before .before .before in
-    let a = p .before .before .before .before .before .args in
-    copied (now (a .input)) (now (a .out)) (p .before .judged-input .ensures) (p .put-judged .ensures) (omega arith) (c .before .before .before .before .before .if1 .left) (c .before .before .put .ensures)
+    let p = c .before .before in
+    let i = p .before .before .before in
+    let j = i .before .before in
+    let a = j .before .before .before .before .before .args in
+    copied (now (a .input)) (now (a .out)) (j .before .judged-input .ensures) (j .put-judged .ensures) (omega arith)
+    (i .if1 .left) (p .put .ensures)
 
 pub compare-text-spec : {M : Type 1} → statement M
 compare-text-spec =

@@ -8,51 +8,45 @@ use Rattle.sets.specs.Text.{Mask, largestInput}
 use Rattle.diff_count.specs.declared.Filter.{Filter}
 use Rattle.lines.specs.Lines.{maskIn}
 use Rattle.compare_text.specs.Answers.{Areas}
-use Rattle.compare_text.proofs.Judging.{Line, Read, first-asks, first-judged, first-missing, first-refused, line-ends, line-fits, line-length, no-line, row-read, row-refused}
+use Rattle.compare_text.proofs.Judging.{Line, Read, first-asks, first-judged, first-missing, first-refused, line-ends, line-fits}
+use Rattle.compare_text.proofs.Judging.{line-length, no-line, row-read, row-refused}
 use borrow.Author.Needs.{needs}
 use Rattle.compare_text.proofs.first_row.Statement.{statement}
 use Rattle.compare_text.proofs.first_row.Tie as tie
-use Rattle.compare_text.proofs.first_row.Reads as reads
-use Rattle.compare_text.proofs.first_row.Lts as lts
-use Rattle.compare_text.proofs.second_row.Reads as second-row-reads
-use Rattle.decode.proofs.find.Reads as find-reads
-use Rattle.lines.proofs.row_line.Reads as row-line-reads
 
 -- the place where the line has its end
-abbrev Ended : Type 0
-Ended =
-    lts.After-known-told
-    (find-reads.Asked, find-reads.Learnt, row-line-reads.Asked, row-line-reads.Learnt, second-row-reads.Asked, second-row-reads.Learnt) reads.Pre reads.Post
+module _ (k : tie.After-known-told) where
+  abbrev start : tie.Start
+  start = k .before .before .before .before .before
 
-module _ (k : Ended) where
   abbrev n : ℕ
-  n = k .before .before .before .before .before .args .config
+  n = start .args .config
 
   abbrev m : Mask
-  m = maskIn (k .before .before .before .before .before .args .m)
+  m = maskIn (start .args .m)
 
   abbrev s : List ℕ
-  s = k .before .before .before .before .before .args .input .now
+  s = start .args .input .now
 
   abbrev end : ℕ
   end = k .before .end .given .0 .0
 
   few : length s ≤ largestInput
-  few = k .before .before .before .before .before .pre .0
+  few = start .pre .0
 
   areas : Areas n
-  areas = k .before .before .before .before .before .pre .1
+  areas = start .pre .1
 
   ended : Line s end
-  ended = line-ends s (k .before .before .before .find .result) (k .before .before .before .find .ensures) end (k .before .end .given .1)
+  ended = line-ends s _ (k .before .before .before .find .ensures) end (k .before .end .given .1)
 
 -- the place where the row is read
-abbrev Given : Type 0
-Given =
-    lts.After-known-told2
-    (find-reads.Asked, find-reads.Learnt, row-line-reads.Asked, row-line-reads.Learnt, second-row-reads.Asked, second-row-reads.Learnt) reads.Pre reads.Post
+module _ (k : tie.After-known-told2) where
+  abbrev line : tie.After-known-told
+  line =
+      let j = k .before .before .before .before .before in
+      j .before .before .before .before
 
-module _ (k : Given) where
   abbrev f : Filter
   f = k .before .f .given .0 .0
 
@@ -62,55 +56,51 @@ module _ (k : Given) where
   abbrev bits : List ℕ
   bits = k .before .before .before .before .before .row-line .last .1 .1 .1 .0
 
-  read : Read (n (k .before .before .before .before .before .before .before .before .before)) (take (end (k .before .before .before .before .before .before .before .before .before)) (s (k .before .before .before .before .before .before .before .before .before))) f top bits
+  read : Read (n line) (take (end line) (s line)) f top bits
   read =
       let w = k .before .before .before .before .before .row-line in
-      row-read (n (k .before .before .before .before .before .before .before .before .before)) (take (end (k .before .before .before .before .before .before .before .before .before)) (s (k .before .before .before .before .before .before .before .before .before))) _ _ (w .result) top bits (w .ensures) f (k .before .f .given .1) (areas (k .before .before .before .before .before .before .before .before .before))
+      row-read (n line) (take (end line) (s line)) _ _ (w .result) top bits (w .ensures) f (k .before .f .given .1) (areas line)
 
 returns : tie.Need-returns
-returns c =
-    let a = c .before .before .before .before .args in
-    let f = c .before .before .find in
-    first-missing (a .config) (maskIn (a .m)) (a .input .now) (no-line (a .input .now) (f .result) (f .ensures) (c .enum-told .given .1))
+returns c = first-missing _ (maskIn _) _ (no-line _ _ (c .before .before .find .ensures) (c .enum-told .given .1))
 
 add-next : tie.Need-add-next
 add-next c = omega (arith, ended c .inside, few c)
 
 slice-aggregate-row-line : tie.Need-slice-aggregate-row-line
-slice-aggregate-row-line c =
-    let k = c .before in
-    sym (line-length (s k) (end k) (ended k))
+slice-aggregate-row-line c = sym (line-length _ _ (ended (c .before)))
 
 row-line-requires : tie.Need-row-line-requires
 row-line-requires c κs =
     let k = c .before .before .before in
-    (line-fits (s k) (end k) (ended k) (few k), areas k)
+    (line-fits _ _ (ended k) (few k), areas k)
 
 sub-second-row : tie.Need-sub-second-row
-sub-second-row c = omega (arith, ended (c .before .before .before .before .before .before .before .before .before .before .before) .inside)
+sub-second-row c = omega (arith, ended (line (c .before .before)) .inside)
 
 part-second-row-start : tie.Need-part-second-row-start
-part-second-row-start c = omega (arith, ended (c .before .before .before .before .before .before .before .before .before .before .before) .inside)
+part-second-row-start c = omega (arith, ended (line (c .before .before)) .inside)
 
 second-row-requires : tie.Need-second-row-requires
 second-row-requires c κs =
     let k = c .before .before .before in
-    let j = k .before .before .before .before .before .before .before .before .before in
-    first-asks (n j) (m j) (s j) (end j) (ended j) (f k) (top k) (bits k) (read k) (few j) (areas j) (k .before .before .before .before .before .before .before .before .before .before .before .before .before .before .pre .2)
+    let j = line k in
+    first-asks (n j) (m j) (s j) (end j) (ended j) (f k) (top k) (bits k) (read k) (few j) (areas j) (start j .pre .2)
 
 returns-2 : tie.Need-returns-2
 returns-2 c =
     let k = c .before .before .before .before in
-    let j = k .before .before .before .before .before .before .before .before .before in
-    first-judged (n j) (m j) (s j) (end j) (ended j) (f k) (top k) (bits k) (read k) (c .second-row .result) (c .second-row .ensures)
+    let j = line k in
+    first-judged (n j) (m j) (s j) (end j) (ended j) (f k) (top k) (bits k) (read k) _ (c .second-row .ensures)
 
 returns-3 : tie.Need-returns-3
 returns-3 c =
-    let j = c .before .before .before .before .before .before .before .before .before in
-    let w = c .before .before .before .before .before .row-line in
+    let r = c .before .before .before .before .before in
+    let j = r .before .before .before .before in
+    let w = r .row-line in
     let x = c .before .r .given in
     first-refused (n j) (m j) (s j) (end j) (ended j) (x .0 .0 .number)
-    (row-refused (n j) (take (end j) (s j)) _ _ (w .result) _ _ (w .ensures) (x .0 .0) 3 (x .1))
+    (row-refused (n j) (take (end j) (s j)) _ _ _ _ _ (w .ensures) (x .0 .0) 3 (x .1))
 
 pub first-row-spec : {M : Type 1} → statement M
 first-row-spec =

@@ -7,25 +7,18 @@ use lib.ListN.{length, take}
 use Rattle.sets.specs.Text.{configLine, is, largestInput}
 use Rattle.lines.specs.Lines.{configTold}
 use Rattle.lines.proofs.Judged.{config-areas}
-use Rattle.compare_text.proofs.Judging.{Line, input-judged, input-long, input-missing, input-refused, line-ends, line-length, no-line, rest-fits}
+use Rattle.compare_text.proofs.Judging.{Line, input-judged, input-long, input-missing, input-refused, line-ends, line-length}
+use Rattle.compare_text.proofs.Judging.{no-line, rest-fits}
 use borrow.Author.Needs.{needs}
 use Rattle.compare_text.proofs.judged_input.Statement.{statement}
 use Rattle.compare_text.proofs.judged_input.Tie as tie
-use Rattle.compare_text.proofs.judged_input.Reads as reads
-use Rattle.compare_text.proofs.judged_input.Lts as lts
-use Rattle.compare_text.proofs.masked_rows.Reads as masked-rows-reads
-use Rattle.decode.proofs.find.Reads as find-reads
-use Rattle.lines.proofs.config_line.Reads as config-line-reads
 
 -- the place where the line has its end
-abbrev Ended : Type 0
-Ended =
-    lts.After-known-told
-    (find-reads.Asked, find-reads.Learnt, config-line-reads.Asked, config-line-reads.Learnt, masked-rows-reads.Asked, masked-rows-reads.Learnt) reads.Pre reads.Post
-
-module _ (k : Ended) where
+module _ (k : tie.After-known-told) where
   abbrev s : List ℕ
-  s = k .before .before .before .before .before .before .args .input .now
+  s =
+      let i = k .before .before .before .before in
+      i .before .before .args .input .now
 
   abbrev end : ℕ
   end = k .before .end .given .0 .0
@@ -34,15 +27,10 @@ module _ (k : Ended) where
   few = k .before .before .before .before .if1 .left
 
   ended : Line s end
-  ended = line-ends s (k .before .before .before .find .result) (k .before .before .before .find .ensures) end (k .before .end .given .1)
+  ended = line-ends s _ (k .before .before .before .find .ensures) end (k .before .end .given .1)
 
 -- the place where the configuration is known
-abbrev Given : Type 0
-Given =
-    lts.After-known-told2
-    (find-reads.Asked, find-reads.Learnt, config-line-reads.Asked, config-line-reads.Learnt, masked-rows-reads.Asked, masked-rows-reads.Learnt) reads.Pre reads.Post
-
-module _ (k : Given) where
+module _ (k : tie.After-known-told2) where
   abbrev n : ℕ
   n = k .before .config .given .0 .0
 
@@ -50,21 +38,19 @@ module _ (k : Given) where
   told = sym (k .before .before .before .config-line .ensures) ∙ ap configTold (k .before .config .given .1)
 
 returns : tie.Need-returns
-returns c = input-long (c .before .before .args .input .now) (c .if1 .taken)
+returns c = input-long _ (c .if1 .taken)
 
 returns-2 : tie.Need-returns-2
 returns-2 c =
     let s = c .before .before .before .before .before .args .input .now in
     let f = c .before .before .find in
-    input-missing s (c .before .before .before .if1 .left) (no-line s (f .result) (f .ensures) (c .enum-told .given .1))
+    input-missing s (c .before .before .before .if1 .left) (no-line s _ (f .ensures) (c .enum-told .given .1))
 
 add-next : tie.Need-add-next
 add-next c = omega (arith, ended c .inside, few c)
 
 slice-aggregate-config-line : tie.Need-slice-aggregate-config-line
-slice-aggregate-config-line c =
-    let k = c .before in
-    sym (line-length (s k) (end k) (ended k))
+slice-aggregate-config-line c = sym (line-length _ _ (ended (c .before)))
 
 sub-masked-rows : tie.Need-sub-masked-rows
 sub-masked-rows c = omega (arith, ended (c .before .before .before .before .before) .inside)
@@ -82,13 +68,15 @@ returns-3 : tie.Need-returns-3
 returns-3 c =
     let k = c .before .before in
     let j = k .before .before .before .before .before in
-    input-judged (s j) (few j) (end j) (ended j) (n k) (c .masked-rows .result) (told k) (c .masked-rows .ensures)
+    input-judged (s j) (few j) (end j) (ended j) (n k) _ (told k) (c .masked-rows .ensures)
 
 returns-4 : tie.Need-returns-4
 returns-4 c =
-    let j = c .before .before .before .before .before in
+    let l = c .before .before .before in
+    let j = l .before .before in
     let x = c .before .r .given in
-    input-refused (s j) (few j) (end j) (ended j) (x .0 .0 .number) (sym (c .before .before .before .config-line .ensures) ∙ ap configTold (x .1))
+    input-refused (s j) (few j) (end j) (ended j) (x .0 .0 .number)
+    (sym (l .config-line .ensures) ∙ ap configTold (x .1))
 
 pub judged-input-spec : {M : Type 1} → statement M
 judged-input-spec =

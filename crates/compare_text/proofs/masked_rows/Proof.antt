@@ -7,45 +7,34 @@ use lib.ListN.{length, take}
 use Rattle.sets.specs.Text.{Mask, is, largestInput, maskLine}
 use Rattle.lines.specs.Lines.{maskIn, maskTold}
 use Rattle.lines.proofs.Judged.{mask-fits}
-use Rattle.compare_text.proofs.Judging.{Line, line-ends, line-length, masked-judged, masked-missing, masked-refused, no-line, rest-fits}
+use Rattle.compare_text.proofs.Judging.{Line, line-ends, line-length, masked-judged, masked-missing, masked-refused, no-line}
+use Rattle.compare_text.proofs.Judging.{rest-fits}
 use borrow.Author.Needs.{needs}
 use Rattle.compare_text.proofs.masked_rows.Statement.{statement}
 use Rattle.compare_text.proofs.masked_rows.Tie as tie
-use Rattle.compare_text.proofs.masked_rows.Reads as reads
-use Rattle.compare_text.proofs.masked_rows.Lts as lts
-use Rattle.compare_text.proofs.first_row.Reads as first-row-reads
-use Rattle.decode.proofs.find.Reads as find-reads
-use Rattle.lines.proofs.mask_line.Reads as mask-line-reads
 
 -- the place where the line has its end
-abbrev Ended : Type 0
-Ended =
-    lts.After-known-told
-    (find-reads.Asked, find-reads.Learnt, mask-line-reads.Asked, mask-line-reads.Learnt, first-row-reads.Asked, first-row-reads.Learnt) reads.Pre reads.Post
+module _ (k : tie.After-known-told) where
+  abbrev start : tie.Start
+  start = k .before .before .before .before .before
 
-module _ (k : Ended) where
   abbrev n : ℕ
-  n = k .before .before .before .before .before .args .config
+  n = start .args .config
 
   abbrev s : List ℕ
-  s = k .before .before .before .before .before .args .input .now
+  s = start .args .input .now
 
   abbrev end : ℕ
   end = k .before .end .given .0 .0
 
   few : length s ≤ largestInput
-  few = k .before .before .before .before .before .pre .0
+  few = start .pre .0
 
   ended : Line s end
-  ended = line-ends s (k .before .before .before .find .result) (k .before .before .before .find .ensures) end (k .before .end .given .1)
+  ended = line-ends s _ (k .before .before .before .find .ensures) end (k .before .end .given .1)
 
 -- the place where the mask is known
-abbrev Given : Type 0
-Given =
-    lts.After-known-told2
-    (find-reads.Asked, find-reads.Learnt, mask-line-reads.Asked, mask-line-reads.Learnt, first-row-reads.Asked, first-row-reads.Learnt) reads.Pre reads.Post
-
-module _ (k : Given) where
+module _ (k : tie.After-known-told2) where
   abbrev m : Mask
   m = maskIn (k .before .m .given .0 .0)
 
@@ -53,18 +42,13 @@ module _ (k : Given) where
   told = sym (k .before .before .before .mask-line .ensures) ∙ ap maskTold (k .before .m .given .1)
 
 returns : tie.Need-returns
-returns c =
-    let a = c .before .before .before .before .args in
-    let f = c .before .before .find in
-    masked-missing (a .config) (a .input .now) (no-line (a .input .now) (f .result) (f .ensures) (c .enum-told .given .1))
+returns c = masked-missing _ _ (no-line _ _ (c .before .before .find .ensures) (c .enum-told .given .1))
 
 add-next : tie.Need-add-next
 add-next c = omega (arith, ended c .inside, few c)
 
 slice-aggregate-mask-line : tie.Need-slice-aggregate-mask-line
-slice-aggregate-mask-line c =
-    let k = c .before in
-    sym (line-length (s k) (end k) (ended k))
+slice-aggregate-mask-line c = sym (line-length _ _ (ended (c .before)))
 
 sub-first-row : tie.Need-sub-first-row
 sub-first-row c = omega (arith, ended (c .before .before .before .before .before) .inside)
@@ -76,19 +60,21 @@ first-row-requires : tie.Need-first-row-requires
 first-row-requires c κs =
     let k = c .before in
     let j = k .before .before .before .before .before in
-    (rest-fits (s j) (end j) (ended j) (few j), j .before .before .before .before .before .pre .1, mask-fits (take (end j) (s j)) (m k) (told k))
+    (rest-fits (s j) (end j) (ended j) (few j), start j .pre .1, mask-fits (take (end j) (s j)) (m k) (told k))
 
 returns-2 : tie.Need-returns-2
 returns-2 c =
     let k = c .before .before in
     let j = k .before .before .before .before .before in
-    masked-judged (n j) (s j) (end j) (ended j) (m k) (c .first-row .result) (told k) (c .first-row .ensures)
+    masked-judged (n j) (s j) (end j) (ended j) (m k) _ (told k) (c .first-row .ensures)
 
 returns-3 : tie.Need-returns-3
 returns-3 c =
-    let j = c .before .before .before .before .before in
+    let l = c .before .before .before in
+    let j = l .before .before in
     let x = c .before .r .given in
-    masked-refused (n j) (s j) (end j) (ended j) (x .0 .0 .number) (sym (c .before .before .before .mask-line .ensures) ∙ ap maskTold (x .1))
+    masked-refused (n j) (s j) (end j) (ended j) (x .0 .0 .number)
+    (sym (l .mask-line .ensures) ∙ ap maskTold (x .1))
 
 pub masked-rows-spec : {M : Type 1} → statement M
 masked-rows-spec =

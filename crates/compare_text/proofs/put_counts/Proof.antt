@@ -8,10 +8,14 @@ use Rattle.compare_text.proofs.put_counts.Tie as tie
 returns : tie.Need-returns
 returns c =
     let u = c .before .before in
-    let t = u .before .before .before .before .before .before in
-    let q = t .before .before .before .before .before .before in
-    let p = q .before .before .before .before .before .before in
-    puts-then (puts-then (puts-then (p .put-line .ensures) (q .put-line2 .ensures)) (t .put-line3 .ensures)) (u .put-line4 .ensures)
+    let k = u .before .before .before in
+    let t = k .before .before .before in
+    let j = t .before .before .before in
+    let q = j .before .before .before in
+    let m = q .before .before .before in
+    let p = m .before .before .before in
+    puts-then (puts-then (puts-then (p .put-line .ensures) (q .put-line2 .ensures)) (t .put-line3 .ensures))
+    (u .put-line4 .ensures)
 
 pub put-counts-spec : {M : Type 1} → statement M
 put-counts-spec =

@@ -12,7 +12,10 @@ returns c =
     figures-put (p .before .before .before .j .given .1) (p .put-counts .ensures) (o .put-outer .ensures)
 
 returns-2 : tie.Need-returns-2
-returns-2 c = refusal-put (c .before .before .before .before .before .before .before .j2 .given .1) (c .before .before .put-line .ensures)
+returns-2 c =
+    let p = c .before .before in
+    let k = p .before .before .before .before .before in
+    refusal-put (k .j2 .given .1) (p .put-line .ensures)
 
 pub put-judged-spec : {M : Type 1} → statement M
 put-judged-spec =

@@ -8,13 +8,16 @@ use Rattle.compare_text.proofs.put_outer.Tie as tie
 returns : tie.Need-returns
 returns c =
     let l = c .before .before in
-    let n = l .before .before .before .before .before .before in
+    let k = l .before .before .before in
+    let n = k .before .before .before in
     let g = n .before .before .before .before .before in
     let h = g .before .before .before .before in
-    let k = h .before .before .before .before in
-    let o = k .before .before .before .before .before in
+    let p = h .before .before .before .before in
+    let o = p .before .before .before .before .before in
     puts-then
-    (puts-then (o .put-order .ensures) (puts-then (k .put .ensures) (puts-then (h .put-hex .ensures) (puts-then (g .put-hex2 .ensures) (n .put2 .ensures)))))
+    (puts-then (o .put-order .ensures)
+    (puts-then (p .put .ensures)
+    (puts-then (h .put-hex .ensures) (puts-then (g .put-hex2 .ensures) (n .put2 .ensures)))))
     (l .put-line .ensures)
 
 pub put-outer-spec : {M : Type 1} → statement M

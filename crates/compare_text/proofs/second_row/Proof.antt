@@ -10,54 +10,50 @@ use Rattle.diff_count.specs.Calls.{shownBy}
 use Rattle.diff_count.specs.declared.Filter.{Filter}
 use Rattle.lines.specs.Lines.{maskIn}
 use Rattle.compare_text.specs.Answers.{Areas}
-use Rattle.compare_text.proofs.Judging.{Line, Read, figures-asks, line-ends, line-fits, line-length, no-line, row-read, row-refused, second-followed, second-judged, second-missing, second-refused}
+use Rattle.compare_text.proofs.Judging.{Line, Read, figures-asks, line-ends, line-fits, line-length, no-line, row-read, row-refused}
+use Rattle.compare_text.proofs.Judging.{second-followed, second-judged, second-missing, second-refused}
 use borrow.Author.Needs.{needs}
 use Rattle.compare_text.proofs.second_row.Statement.{statement}
 use Rattle.compare_text.proofs.second_row.Tie as tie
-use Rattle.compare_text.proofs.second_row.Reads as reads
-use Rattle.compare_text.proofs.second_row.Lts as lts
-use Rattle.decode.proofs.find.Reads as find-reads
-use Rattle.figures.proofs.figures_of.Reads as figures-of-reads
-use Rattle.lines.proofs.row_line.Reads as row-line-reads
 
 -- the place where the line has its end
-abbrev Ended : Type 0
-Ended =
-    lts.After-known-told
-    (find-reads.Asked, find-reads.Learnt, row-line-reads.Asked, row-line-reads.Learnt, figures-of-reads.Asked, figures-of-reads.Learnt) reads.Pre reads.Post
+module _ (k : tie.After-known-told) where
+  abbrev start : tie.Start
+  start =
+      let j = k .before .before .before in
+      j .before .before .before .before
 
-module _ (k : Ended) where
   abbrev n : ℕ
-  n = k .before .before .before .before .before .before .before .args .f .config
+  n = start .args .f .config
 
   abbrev m : Mask
-  m = maskIn (k .before .before .before .before .before .before .before .args .m)
+  m = maskIn (start .args .m)
 
   abbrev S : Set
-  S = shownBy (k .before .before .before .before .before .before .before .args .f) (k .before .before .before .before .before .before .before .args .top .now) (k .before .before .before .before .before .before .before .args .blocks .now)
+  S = shownBy (start .args .f) (start .args .top .now) (start .args .blocks .now)
 
   abbrev s : List ℕ
-  s = k .before .before .before .before .before .before .before .args .input .now
+  s = start .args .input .now
 
   abbrev end : ℕ
   end = k .before .end .given .0 .0
 
   few : length s ≤ largestInput
-  few = k .before .before .before .before .before .before .before .pre .0 .0
+  few = start .pre .0 .0
 
   areas : Areas n
-  areas = k .before .before .before .before .before .before .before .pre .0 .1
+  areas = start .pre .0 .1
 
   ended : Line s end
-  ended = line-ends s (k .before .before .before .find .result) (k .before .before .before .find .ensures) end (k .before .end .given .1)
+  ended = line-ends s _ (k .before .before .before .find .ensures) end (k .before .end .given .1)
 
 -- the place where the row is read
-abbrev Given : Type 0
-Given =
-    lts.After-known-told2
-    (find-reads.Asked, find-reads.Learnt, row-line-reads.Asked, row-line-reads.Learnt, figures-of-reads.Asked, figures-of-reads.Learnt) reads.Pre reads.Post
+module _ (k : tie.After-known-told2) where
+  abbrev line : tie.After-known-told
+  line =
+      let j = k .before .before .before .before .before in
+      j .before .before .before .before
 
-module _ (k : Given) where
   abbrev g : Filter
   g = k .before .g .given .0 .0
 
@@ -67,59 +63,57 @@ module _ (k : Given) where
   abbrev bits2 : List ℕ
   bits2 = k .before .before .before .before .before .row-line .last .1 .1 .1 .0
 
-  read : Read (n (k .before .before .before .before .before .before .before .before .before)) (take (end (k .before .before .before .before .before .before .before .before .before)) (s (k .before .before .before .before .before .before .before .before .before))) g top2 bits2
+  read : Read (n line) (take (end line) (s line)) g top2 bits2
   read =
       let w = k .before .before .before .before .before .row-line in
-      row-read (n (k .before .before .before .before .before .before .before .before .before)) (take (end (k .before .before .before .before .before .before .before .before .before)) (s (k .before .before .before .before .before .before .before .before .before))) _ _ (w .result) top2 bits2 (w .ensures) g (k .before .g .given .1) (areas (k .before .before .before .before .before .before .before .before .before))
+      row-read (n line) (take (end line) (s line)) _ _ (w .result) top2 bits2 (w .ensures) g (k .before .g .given .1) (areas line)
 
 returns : tie.Need-returns
 returns c =
-    let a = c .before .before .before .before .before .before .args in
-    let f = c .before .before .find in
-    second-missing (a .f .config) (maskIn (a .m)) (shownBy (a .f) (a .top .now) (a .blocks .now)) (a .input .now)
-    (no-line (a .input .now) (f .result) (f .ensures) (c .enum-told .given .1))
+    let k = c .before .before in
+    let a = k .before .before .before .before .args in
+    second-missing (a .f .config) (maskIn _) (shownBy (a .f) (a .top .now) _) _
+    (no-line _ _ (k .find .ensures) (c .enum-told .given .1))
 
 slice-aggregate-row-line : tie.Need-slice-aggregate-row-line
-slice-aggregate-row-line c =
-    let k = c .before in
-    sym (line-length (s k) (end k) (ended k))
+slice-aggregate-row-line c = sym (line-length _ _ (ended (c .before)))
 
 row-line-requires : tie.Need-row-line-requires
 row-line-requires c κs =
     let k = c .before .before .before in
-    (line-fits (s k) (end k) (ended k) (few k), areas k)
+    (line-fits _ _ (ended k) (few k), areas k)
 
 add-if1 : tie.Need-add-if1
-add-if1 c =
-    let k = c .before .before .before .before .before .before .before .before .before in
-    omega (arith, ended k .inside, few k)
+add-if1 c = omega (arith, ended (line c) .inside, few (line c))
 
 returns-2 : tie.Need-returns-2
 returns-2 c =
     let k = c .before in
-    let j = k .before .before .before .before .before .before .before .before .before in
+    let j = line k in
     second-followed (n j) (m j) (S j) (s j) (end j) (ended j) (g k) (top2 k) (bits2 k) (read k) (c .if1 .taken)
 
 figures-of-requires : tie.Need-figures-of-requires
 figures-of-requires c κs =
     let k = c .before .before .before in
-    let q = k .before .before .before .before .before .before .before .before .before .before .before .before .before .before .before .before in
-    let a = q .args in
-    figures-asks (a .f) (a .top .now) (a .blocks .now) (take (end (k .before .before .before .before .before .before .before .before .before)) (s (k .before .before .before .before .before .before .before .before .before))) (g k) (top2 k) (bits2 k) (m (k .before .before .before .before .before .before .before .before .before)) (q .pre .1 .0) (read k) (q .pre .1 .1)
+    let j = line k in
+    let pre = start j .pre in
+    figures-asks _ _ _ (take (end j) (s j)) (g k) (top2 k) (bits2 k) (m j) (pre .1 .0) (read k) (pre .1 .1)
 
 returns-3 : tie.Need-returns-3
 returns-3 c =
-    let k = c .before .before .before .before in
-    let j = k .before .before .before .before .before .before .before .before .before in
-    second-judged (n j) (m j) (S j) (s j) (end j) (ended j) (g k) (top2 k) (bits2 k) (read k) (c .figures-of .result) (c .before .before .before .if1 .left) (c .figures-of .ensures)
+    let i = c .before .before .before in
+    let k = i .before in
+    let j = line k in
+    second-judged (n j) (m j) (S j) (s j) (end j) (ended j) (g k) (top2 k) (bits2 k) (read k) _ (i .if1 .left)
+    (c .figures-of .ensures)
 
 returns-4 : tie.Need-returns-4
 returns-4 c =
-    let j = c .before .before .before .before .before .before .before .before .before in
-    let w = c .before .before .before .before .before .row-line in
+    let r = c .before .before .before .before .before in
+    let j = r .before .before .before .before in
     let x = c .before .r .given in
     second-refused (n j) (m j) (S j) (s j) (end j) (ended j) (x .0 .0 .number)
-    (row-refused (n j) (take (end j) (s j)) _ _ (w .result) _ _ (w .ensures) (x .0 .0) 4 (x .1))
+    (row-refused (n j) (take (end j) (s j)) _ _ _ _ _ (r .row-line .ensures) (x .0 .0) 4 (x .1))
 
 pub second-row-spec : {M : Type 1} → statement M
 second-row-spec =

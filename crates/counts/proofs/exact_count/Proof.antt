@@ -13,9 +13,7 @@ use Rattle.counts.proofs.exact_count.Tie as tie
 told : (c : tie.After-enum-told) →
     let a = c .before .before .before .before .before .args in
     One (a .f) (a .top .now) (a .blocks .now) (c .enum-told .given .0 .0)
-told c =
-    let a = c .before .before .before .before .before .args in
-    one (a .f) (a .top .now) (a .blocks .now) (c .enum-told .given .0 .0) (c .before .before .filter-lent .ensures) (c .enum-told .given .1)
+told c = one _ _ _ _ (c .before .before .filter-lent .ensures) (c .enum-told .given .1)
 
 num-blocks-requires : tie.Need-num-blocks-requires
 num-blocks-requires c κs = omega (arith, told c .fits)
@@ -27,15 +25,13 @@ exact-count-requires c κs =
 
 returns : tie.Need-returns
 returns c =
-    let a = c .before .before .before .before .before .before .before .args in
-    let k = c .before .before in
-    one-exact (a .f) (a .top .now) (a .blocks .now) (k .enum-told .given .0 .0) (told k) (c .before .num-blocks .result) (c .before .num-blocks .ensures) (c .exact-count .result) (c .exact-count .ensures)
+    one-exact _ _ _ _ (told (c .before .before)) _ (c .before .num-blocks .ensures) _ (c .exact-count .ensures)
 
 returns-2 : tie.Need-returns-2
 unfolding exactOf
 returns-2 c =
-    let a = c .before .before .before .before .before .before .args in
-    refuses (λ x. counts.Refused x) _ (one-not (a .f) (a .top .now) (a .blocks .now) (c .before .r .given .0 .0) (c .before .before .before .filter-lent .ensures) (c .before .r .given .1))
+    refuses (λ x. counts.Refused x) _
+    (one-not _ _ _ _ (c .before .before .before .filter-lent .ensures) (c .before .r .given .1))
 
 pub exact-count-spec : {M : Type 1} → statement M
 exact-count-spec =

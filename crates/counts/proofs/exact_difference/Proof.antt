@@ -11,11 +11,10 @@ use Rattle.counts.proofs.exact_difference.Tie as tie
 
 -- what the judge told
 told : (c : tie.After-known-told) →
-    let a = c .before .before .before .before .before .before .before .before .args in
+    let l = c .before .before .before in
+    let a = l .before .before .before .before .before .args in
     Two (a .a) (a .top .now) (a .blocks .now) (a .b) (a .top2 .now) (a .blocks2 .now) (c .before .s .given .0 .0)
-told c =
-    let a = c .before .before .before .before .before .before .before .before .args in
-    two (a .a) (a .top .now) (a .blocks .now) (a .b) (a .top2 .now) (a .blocks2 .now) (c .before .s .given .0 .0) (c .before .before .before .filters-lent .ensures) (c .before .s .given .1)
+told c = two _ _ _ _ _ _ _ (c .before .before .before .filters-lent .ensures) (c .before .s .given .1)
 
 num-blocks-requires : tie.Need-num-blocks-requires
 num-blocks-requires c κs = omega (arith, told c .fits)
@@ -26,19 +25,19 @@ num-blocks-requires-2 c κs = omega (arith, told (c .before) .fits2)
 exact-xor-count-requires : tie.Need-exact-xor-count-requires
 exact-xor-count-requires c κs =
     let T = told (c .before .before) in
-    (fits-walk (c .before .num-blocks .result) (c .before .num-blocks .ensures) (T .fits) .0, fits-walk (c .num-blocks2 .result) (c .num-blocks2 .ensures) (T .fits2) .0)
+    (fits-walk _ (c .before .num-blocks .ensures) (T .fits) .0, fits-walk _ (c .num-blocks2 .ensures) (T .fits2) .0)
 
 returns : tie.Need-returns
 returns c =
-    let a = c .before .before .before .before .before .before .before .before .before .before .before .args in
-    let k = c .before .before .before in
-    two-exact (a .a) (a .top .now) (a .blocks .now) (a .b) (a .top2 .now) (a .blocks2 .now) (k .before .s .given .0 .0) (told k) (c .before .before .num-blocks .result) (c .before .num-blocks2 .result) (c .before .before .num-blocks .ensures) (c .before .num-blocks2 .ensures) (c .exact-xor-count .result) (c .exact-xor-count .ensures)
+    let n = c .before .before in
+    two-exact _ _ _ _ _ _ _ (told (n .before)) _ _ (n .num-blocks .ensures) (c .before .num-blocks2 .ensures) _
+    (c .exact-xor-count .ensures)
 
 returns-2 : tie.Need-returns-2
 unfolding exactDifferenceOf
 returns-2 c =
-    let a = c .before .before .before .before .before .before .before .before .args in
-    refuses (λ x. counts.Refused x) _ (two-not (a .a) (a .top .now) (a .blocks .now) (a .b) (a .top2 .now) (a .blocks2 .now) (c .before .r .given .0 .0) (c .before .before .before .filters-lent .ensures) (c .before .r .given .1))
+    refuses (λ x. counts.Refused x) _
+    (two-not _ _ _ _ _ _ _ (c .before .before .before .filters-lent .ensures) (c .before .r .given .1))
 
 pub exact-difference-spec : {M : Type 1} → statement M
 exact-difference-spec =

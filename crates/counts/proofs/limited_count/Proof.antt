@@ -11,11 +11,10 @@ use Rattle.counts.proofs.limited_count.Tie as tie
 
 -- what the judge told
 told : (c : tie.After-known-told) →
-    let a = c .before .before .before .before .before .before .args in
+    let l = c .before .before .before in
+    let a = l .before .before .before .args in
     One (a .f) (a .top .now) (a .blocks .now) (c .before .s .given .0 .0)
-told c =
-    let a = c .before .before .before .before .before .before .args in
-    one (a .f) (a .top .now) (a .blocks .now) (c .before .s .given .0 .0) (c .before .before .before .filter-lent .ensures) (c .before .s .given .1)
+told c = one _ _ _ _ (c .before .before .before .filter-lent .ensures) (c .before .s .given .1)
 
 last-entry-requires : tie.Need-last-entry-requires
 last-entry-requires c κs = omega (arith, told c .fits)
@@ -25,21 +24,24 @@ num-blocks-requires c κs = omega (arith, told (c .before) .fits)
 
 count-ones-from-msb-and-lsb-requires : tie.Need-count-ones-from-msb-and-lsb-requires
 count-ones-from-msb-and-lsb-requires c κs =
-    let F = told (c .before .before) .fits in
-    (omega arith, omega (arith, c .before .last-entry .ensures), omega (arith, c .num-blocks .ensures), omega (arith, c .num-blocks .ensures))
+    let F = told (c .before .before) .fits in (
+      omega arith,
+      omega (arith, c .before .last-entry .ensures),
+      omega (arith, c .num-blocks .ensures),
+      omega (arith, c .num-blocks .ensures),
+    )
 
 returns : tie.Need-returns
 returns c =
-    let a = c .before .before .before .before .before .before .before .before .before .args in
-    let k = c .before .before .before in
-    one-limited (a .f) (a .top .now) (a .blocks .now) (k .before .s .given .0 .0) (told k) (c .before .num-blocks .result) (c .before .num-blocks .ensures)
-    (c .count-ones-from-msb-and-lsb .result) (c .before .before .last-entry .result) (c .before .before .last-entry .ensures) (c .count-ones-from-msb-and-lsb .ensures)
+    let l = c .before .before in
+    one-limited _ _ _ _ (told (l .before)) _ (c .before .num-blocks .ensures)
+    _ _ (l .last-entry .ensures) (c .count-ones-from-msb-and-lsb .ensures)
 
 returns-2 : tie.Need-returns-2
 unfolding limitedOf
 returns-2 c =
-    let a = c .before .before .before .before .before .before .args in
-    refuses (λ x. limits.Refused x) _ (one-not (a .f) (a .top .now) (a .blocks .now) (c .before .r .given .0 .0) (c .before .before .before .filter-lent .ensures) (c .before .r .given .1))
+    refuses (λ x. limits.Refused x) _
+    (one-not _ _ _ _ (c .before .before .before .filter-lent .ensures) (c .before .r .given .1))
 
 pub limited-count-spec : {M : Type 1} → statement M
 limited-count-spec =

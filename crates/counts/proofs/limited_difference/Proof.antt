@@ -11,11 +11,10 @@ use Rattle.counts.proofs.limited_difference.Tie as tie
 
 -- what the judge told
 told : (c : tie.After-known-told) →
-    let a = c .before .before .before .before .before .before .before .before .args in
+    let l = c .before .before .before in
+    let a = l .before .before .before .before .before .args in
     Two (a .a) (a .top .now) (a .blocks .now) (a .b) (a .top2 .now) (a .blocks2 .now) (c .before .s .given .0 .0)
-told c =
-    let a = c .before .before .before .before .before .before .before .before .args in
-    two (a .a) (a .top .now) (a .blocks .now) (a .b) (a .top2 .now) (a .blocks2 .now) (c .before .s .given .0 .0) (c .before .before .before .filters-lent .ensures) (c .before .s .given .1)
+told c = two _ _ _ _ _ _ _ (c .before .before .before .filters-lent .ensures) (c .before .s .given .1)
 
 num-blocks-requires : tie.Need-num-blocks-requires
 num-blocks-requires c κs = omega (arith, told c .fits)
@@ -26,21 +25,21 @@ num-blocks-requires-2 c κs = omega (arith, told (c .before) .fits2)
 count-ones-from-bitchunks-requires : tie.Need-count-ones-from-bitchunks-requires
 count-ones-from-bitchunks-requires c κs =
     let T = told (c .before .before) in (
-      fits-walk (c .before .num-blocks .result) (c .before .num-blocks .ensures) (T .fits) .0,
-      (fits-walk (c .num-blocks2 .result) (c .num-blocks2 .ensures) (T .fits2) .0, (omega (arith, T .sizes), omega (arith, T .sizes))),
+      fits-walk _ (c .before .num-blocks .ensures) (T .fits) .0,
+      (fits-walk _ (c .num-blocks2 .ensures) (T .fits2) .0, (omega (arith, T .sizes), omega (arith, T .sizes))),
     )
 
 returns : tie.Need-returns
 returns c =
-    let a = c .before .before .before .before .before .before .before .before .before .before .before .args in
-    let k = c .before .before .before in
-    two-limited (a .a) (a .top .now) (a .blocks .now) (a .b) (a .top2 .now) (a .blocks2 .now) (k .before .s .given .0 .0) (told k) (c .before .before .num-blocks .result) (c .before .num-blocks2 .result) (c .before .before .num-blocks .ensures) (c .before .num-blocks2 .ensures) (c .count-ones-from-bitchunks .result) (c .count-ones-from-bitchunks .ensures)
+    let n = c .before .before in
+    two-limited _ _ _ _ _ _ _ (told (n .before)) _ _ (n .num-blocks .ensures) (c .before .num-blocks2 .ensures) _
+    (c .count-ones-from-bitchunks .ensures)
 
 returns-2 : tie.Need-returns-2
 unfolding limitedDifferenceOf
 returns-2 c =
-    let a = c .before .before .before .before .before .before .before .before .args in
-    refuses (λ x. limits.Refused x) _ (two-not (a .a) (a .top .now) (a .blocks .now) (a .b) (a .top2 .now) (a .blocks2 .now) (c .before .r .given .0 .0) (c .before .before .before .filters-lent .ensures) (c .before .r .given .1))
+    refuses (λ x. limits.Refused x) _
+    (two-not _ _ _ _ _ _ _ (c .before .before .before .filters-lent .ensures) (c .before .r .given .1))
 
 pub limited-difference-spec : {M : Type 1} → statement M
 limited-difference-spec =

@@ -17,7 +17,9 @@ returns-2 c =
 returns-3 : tie.Need-returns-3
 returns-3 c =
     let k = c .before .before .before in
-    c .digits .ensures ∙ decimal-spelled (k .before .before .args .s .now) (k .if1 .left) (⊎-map (λ w. w .1 .left) (λ w. w .left) (c .before .if2 .came))
+    c .digits .ensures
+    ∙ decimal-spelled (k .before .before .args .s .now) (k .if1 .left)
+    (⊎-map (λ w. w .1 .left) (λ w. w .left) (c .before .if2 .came))
 
 pub decimal-spec : {M : Type 1} → statement M
 decimal-spec =

@@ -22,10 +22,10 @@ loop-holds c = decoding-start _ _ (c .before .before .before .pre) (c .if1 .left
 
 returns-2 : tie.Need-returns-2 Inv-loop μ-loop
 returns-2 c =
-    let l = c .before in
-    let h = l .before .before in
+    let h = c .before .before .before in
     let k = h .before .before in
-    decoding-not (k .before .loop .inv) (k .loop-test .taken) _ _ (h .value .ensures) (l .value2 .ensures) (⊎-map (λ w. w .taken) (λ w. w .1 .taken) (c .if2 .came))
+    decoding-not (k .before .loop .inv) (k .loop-test .taken) _ _ (h .value .ensures) (c .before .value2 .ensures)
+    (⊎-map (λ w. w .taken) (λ w. w .1 .taken) (c .if2 .came))
 
 add-to : tie.Need-add-to Inv-loop μ-loop
 add-to c = omega (arith, ltb-false 15 (c .before .before .value2 .result) (c .if3 .left))
@@ -35,7 +35,8 @@ loop-again c =
     let l = c .before .before in
     let h = l .before .before in
     let k = h .before .before in
-    decoding-turn (k .before .loop .inv) (k .loop-test .taken) _ _ (h .value .ensures) (l .value2 .ensures) (c .before .if2 .left) (c .if3 .left)
+    decoding-turn (k .before .loop .inv) (k .loop-test .taken) _ _ (h .value .ensures) (l .value2 .ensures)
+    (c .before .if2 .left) (c .if3 .left)
 
 returns-3 : tie.Need-returns-3 Inv-loop μ-loop
 returns-3 c = decoding-end (c .before .loop .inv) (c .loop-test .left)

@@ -13,8 +13,7 @@ zero-cells-requires c κs =
     let a = k .before .before in
     let s = a .before .before .before in (
       omega arith,
-      areas-room _ (s .args .top .now) (s .args .blocks .now) _
-          (sym (a .areas .ensures) ∙ k .s .given .1) .cells,
+      areas-room _ (s .args .top .now) (s .args .blocks .now) _ (sym (a .areas .ensures) ∙ k .s .given .1) .cells,
     )
 
 zero-blocks-requires : tie.Need-zero-blocks-requires
@@ -24,8 +23,7 @@ zero-blocks-requires c κs =
     let a = j .before .before in
     let s = a .before .before .before in (
       omega arith,
-      areas-room _ (s .args .top .now) (s .args .blocks .now) _
-          (sym (a .areas .ensures) ∙ j .s .given .1) .blocksIn,
+      areas-room _ (s .args .top .now) (s .args .blocks .now) _ (sym (a .areas .ensures) ∙ j .s .given .1) .blocksIn,
     )
 
 returns : tie.Need-returns

@@ -5,9 +5,7 @@ use Rattle.diff_count.proofs.filters_lent.Statement.{statement}
 use Rattle.diff_count.proofs.filters_lent.Tie as tie
 
 returns : tie.Need-returns
-returns c =
-    let a = c .before .before .before .before .before .args in
-    two-lent (a .a) (a .top .now) (a .blocks .now) (a .b) (a .top2 .now) (a .blocks2 .now) (c .two-filters .ensures)
+returns c = two-lent _ _ _ _ _ _ (c .two-filters .ensures)
 
 pub filters-lent-spec : {M : Type 1} → statement M
 filters-lent-spec = tie.close (tie.spec (λ c κs. search needs) returns)

@@ -22,7 +22,7 @@ returns c =
     let s = a .before .before .before .before in
     let H = filter-holds _ _ _ _ _ _ (s .pre .1 .0) in
     bits-become (s .args .list .now) (s .pre .0) H (s .pre .1 .1)
-    (all-below (s .args .tally .boundary) (s .args .list .now) (sym (a .all-below .ensures) ∙ i .if1 .taken))
+    (all-below _ (s .args .list .now) (sym (a .all-below .ensures) ∙ i .if1 .taken))
     (λ j. c .slice-known3 .given j .fits) (t .toggle-all .ensures)
 
 pub flip-all-spec : {M : Type 1} → statement M

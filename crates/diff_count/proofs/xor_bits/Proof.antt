@@ -9,7 +9,8 @@ use borrow.Author.Needs.{needs}
 use Rattle.diff_count.proofs.xor_bits.Statement.{statement}
 use Rattle.diff_count.proofs.xor_bits.Tie as tie
 
-edge-is : (c : tie.Joined1) → c .if1 .edge ≡ max (c .before .before .before .before .args .boundary) (c .before .before .before .before .args .boundary2)
+edge-is : (c : tie.Joined1)
+    → c .if1 .edge ≡ max (c .before .before .before .before .args .boundary) (c .before .before .before .before .args .boundary2)
 edge-is c = ⊎-elim (λ w. omega arith) (λ w. omega arith) (c .if1 .came)
 
 num-blocks-requires : tie.Need-num-blocks-requires

@@ -17,7 +17,9 @@ abbrev μ-loop : tie.MeasureT-loop
 μ-loop out₀ at n i₀ out i = 16 - i
 
 loop-holds : tie.Need-loop-holds Inv-loop μ-loop
-loop-holds c = putting-start (toHex 16 (c .before .args .n)) (set (c .before .args .out .now) (c .before .args .at) space) (c .before .args .at + 1)
+loop-holds c =
+    putting-start (toHex 16 (c .before .args .n)) (set (c .before .args .out .now) (c .before .args .at) space)
+    (c .before .args .at + 1)
 
 slice-write-out-2 : tie.Need-slice-write-out-2 Inv-loop μ-loop
 slice-write-out-2 c =

@@ -37,9 +37,10 @@ same-length c =
 returns : tie.Need-returns Inv-loop μ-loop
 returns c =
     let p = c .before .before in
-    let l = p .before .before .before .before in
+    let t = p .before .before .before in
+    let k = t .before .before .before .before in
     puts-more (omega arith)
-    (puts-then (l .before .before .before .put .ensures) (listing-end (l .loop .inv) (p .before .before .before .loop-test .left) (p .put2 .ensures)))
+    (puts-then (k .put .ensures) (listing-end (t .before .loop .inv) (t .loop-test .left) (p .put2 .ensures)))
 
 pub put-line-spec : {M : Type 1} → statement M
 put-line-spec =

@@ -1,6 +1,5 @@
 -- `exports::zamgulekt_builder_finish` meets its contract: it tells what `finish` answers, and leaves what it leaves. Assumes nothing.
 use Rattle.exports.proofs.Telling.{finishes-as}
-use denote.Ref.{now}
 use borrow.Author.Needs.{needs}
 use Rattle.exports.proofs.zamgulekt_builder_finish.Statement.{statement}
 use Rattle.exports.proofs.zamgulekt_builder_finish.Tie as tie
@@ -9,10 +8,9 @@ returns : tie.Need-returns
 returns c =
     let t = c .before .before .before .before .before in
     let b = t .before .before .before .before in
-    let a = b .before .before .before .before .before .args in
     record {
       answer = t .finish .result;
-      keeps = finishes-as (now (a .pending)) (now (a .bits)) (now (a .top)) (now (a .blocks)) (b .builder-in .ensures) (t .finish .ensures);
+      keeps = finishes-as _ _ _ _ (b .builder-in .ensures) (t .finish .ensures);
       tells = c .put-made .ensures;
     }
 

@@ -11,10 +11,13 @@ use Rattle.exports.proofs.zamgulekt_builder_raise.Tie as tie
 
 returns : tie.Need-returns
 returns c =
-    let t = c .before in
     let i = c .before .before .before in
     let a = i .before .before .before .before .args in
-    told-as (ap builtTold (t .raise .ensures ∙ ap (λ (b : Builder). raised b (now (a .pending)) (now (a .bits)) (a .to)) (i .builder-in .ensures))) (c .put-built .ensures)
+    told-as
+    (ap builtTold
+    (c .before .raise .ensures
+    ∙ ap (λ (b : Builder). raised b (now (a .pending)) (now (a .bits)) (a .to)) (i .builder-in .ensures)))
+    (c .put-built .ensures)
 
 pub zamgulekt-builder-raise-spec : {M : Type 1} → statement M
 zamgulekt-builder-raise-spec =

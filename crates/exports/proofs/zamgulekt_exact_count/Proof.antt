@@ -11,10 +11,13 @@ use Rattle.exports.proofs.zamgulekt_exact_count.Tie as tie
 
 returns : tie.Need-returns
 returns c =
-    let t = c .before in
     let i = c .before .before in
     let a = i .before .before .before .before .args in
-    told-as (ap countTold (t .exact-count .ensures ∙ ap (λ (f : Filter). exactOf f (now (a .top)) (now (a .blocks))) (i .filter-in .ensures))) (c .put-count .ensures)
+    told-as
+    (ap countTold
+    (c .before .exact-count .ensures
+    ∙ ap (λ (f : Filter). exactOf f (now (a .top)) (now (a .blocks))) (i .filter-in .ensures)))
+    (c .put-count .ensures)
 
 pub zamgulekt-exact-count-spec : {M : Type 1} → statement M
 zamgulekt-exact-count-spec =

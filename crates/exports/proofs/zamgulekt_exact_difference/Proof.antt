@@ -11,14 +11,15 @@ use Rattle.exports.proofs.zamgulekt_exact_difference.Tie as tie
 
 returns : tie.Need-returns
 returns c =
-    let t = c .before in
-    let g = t .before in
-    let f = g .before in
-    let a = f .before .before .before .before .before .before .args in
+    let g = c .before .before in
+    let k = g .before .before .before .before in
+    let a = k .before .before .before .args in
     told-as
     (ap countTold
-    (t .exact-difference .ensures
-    ∙ ap₂ (λ (x y : Filter). exactDifferenceOf x (now (a .top)) (now (a .blocks)) y (now (a .top2)) (now (a .blocks2))) (f .filter-in .ensures) (g .filter-in2 .ensures)))
+    (c .before .exact-difference .ensures
+    ∙ ap₂
+    (λ (x y : Filter). exactDifferenceOf x (now (a .top)) (now (a .blocks)) y (now (a .top2)) (now (a .blocks2)))
+    (g .before .filter-in .ensures) (g .filter-in2 .ensures)))
     (c .put-count .ensures)
 
 pub zamgulekt-exact-difference-spec : {M : Type 1} → statement M

@@ -11,10 +11,13 @@ use Rattle.exports.proofs.zamgulekt_limited_count.Tie as tie
 
 returns : tie.Need-returns
 returns c =
-    let t = c .before in
     let i = c .before .before in
     let a = i .before .before .before .before .args in
-    told-as (ap limitedTold (t .limited-count .ensures ∙ ap (λ (f : Filter). limitedOf f (now (a .top)) (now (a .blocks))) (i .filter-in .ensures))) (c .put-limited .ensures)
+    told-as
+    (ap limitedTold
+    (c .before .limited-count .ensures
+    ∙ ap (λ (f : Filter). limitedOf f (now (a .top)) (now (a .blocks))) (i .filter-in .ensures)))
+    (c .put-limited .ensures)
 
 pub zamgulekt-limited-count-spec : {M : Type 1} → statement M
 zamgulekt-limited-count-spec =

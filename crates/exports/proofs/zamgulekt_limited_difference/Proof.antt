@@ -11,14 +11,15 @@ use Rattle.exports.proofs.zamgulekt_limited_difference.Tie as tie
 
 returns : tie.Need-returns
 returns c =
-    let t = c .before in
-    let g = t .before in
-    let f = g .before in
-    let a = f .before .before .before .before .before .before .args in
+    let g = c .before .before in
+    let k = g .before .before .before .before in
+    let a = k .before .before .before .args in
     told-as
     (ap limitedTold
-    (t .limited-difference .ensures
-    ∙ ap₂ (λ (x y : Filter). limitedDifferenceOf x (now (a .top)) (now (a .blocks)) y (now (a .top2)) (now (a .blocks2))) (f .filter-in .ensures) (g .filter-in2 .ensures)))
+    (c .before .limited-difference .ensures
+    ∙ ap₂
+    (λ (x y : Filter). limitedDifferenceOf x (now (a .top)) (now (a .blocks)) y (now (a .top2)) (now (a .blocks2)))
+    (g .before .filter-in .ensures) (g .filter-in2 .ensures)))
     (c .put-limited .ensures)
 
 pub zamgulekt-limited-difference-spec : {M : Type 1} → statement M

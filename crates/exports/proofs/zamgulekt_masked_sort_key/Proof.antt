@@ -13,22 +13,26 @@ returns : tie.Need-returns
 unfolding keyTold
 returns c =
     let t = c .before .before .before in
-    let i = t .before in
-    let a = i .before .before .before .args in
+    let a = t .before .before .before .before .args in
     given
     (ap keyTold
-    (sym (t .masked-sort-key .ensures ∙ ap (λ (f : Filter). keyFor f (now (a .top)) (now (a .blocks)) (a .mask) (a .size)) (i .filter-in .ensures))
+    (sym
+    (t .masked-sort-key .ensures
+    ∙ ap (λ (f : Filter). keyFor f (now (a .top)) (now (a .blocks)) (a .mask) (a .size))
+    (t .before .filter-in .ensures))
     ∙ c .before .k .given .1))
 
 returns-2 : tie.Need-returns-2
 unfolding keyTold
 returns-2 c =
     let t = c .before .before .before in
-    let i = t .before in
-    let a = i .before .before .before .args in
+    let a = t .before .before .before .before .args in
     refusing
     (ap keyTold
-    (sym (t .masked-sort-key .ensures ∙ ap (λ (f : Filter). keyFor f (now (a .top)) (now (a .blocks)) (a .mask) (a .size)) (i .filter-in .ensures))
+    (sym
+    (t .masked-sort-key .ensures
+    ∙ ap (λ (f : Filter). keyFor f (now (a .top)) (now (a .blocks)) (a .mask) (a .size))
+    (t .before .filter-in .ensures))
     ∙ c .before .r .given .1))
 
 pub zamgulekt-masked-sort-key-spec : {M : Type 1} → statement M

@@ -1,7 +1,7 @@
--- `exports::zamgulekt_row_reader_step` meets its contract: it tells what `step_at` answers at the reader's place, and moves the place. Assumes nothing.
+-- `exports::zamgulekt_row_reader_step` meets its contract: it tells what `step_at` answers at the reader's place, and moves the
+-- place. Assumes nothing.
 use mathlib.Core.Path.{sym, ap, ap₂, _∙_}
 use Rattle.row_reader.specs.declared.Stepped.{Stepped}
-use denote.Ref.{now}
 use Rattle.exports.specs.Told.{stepTold}
 use Rattle.exports.specs.Calls.{readerAfter}
 use Rattle.exports.proofs.Telling.{given, refusing}
@@ -12,26 +12,33 @@ use Rattle.exports.proofs.zamgulekt_row_reader_step.Tie as tie
 returns : tie.Need-returns
 unfolding stepTold readerAfter
 returns c =
-    let t = c .before .before .before .before .before in
-    let a = t .before .before .before .before .args in
-    let e = sym (ap (λ (s : Stepped). s .answer) (t .step-at .ensures)) ∙ c .before .before .before .answer .given .1 in
-    record { tells = given (ap stepTold e); moves = sym (ap₂ (readerAfter (now (a .reader))) e (sym (ap (λ (s : Stepped). s .place) (t .step-at .ensures)))) }
+    let a = c .before .before .before in
+    let t = a .before .before in
+    let e = sym (ap (λ (s : Stepped). s .answer) (t .step-at .ensures)) ∙ a .answer .given .1 in
+    record {
+      tells = given (ap stepTold e);
+      moves = sym (ap₂ (readerAfter _) e (sym (ap (λ (s : Stepped). s .place) (t .step-at .ensures))));
+    }
 
 returns-2 : tie.Need-returns-2
 unfolding stepTold readerAfter
 returns-2 c =
     let t = c .before .before .before in
-    let a = t .before .before .before .before .args in
     let e = sym (ap (λ (s : Stepped). s .answer) (t .step-at .ensures)) ∙ c .before .enum-told .given .1 in
-    record { tells = given (ap stepTold e); moves = sym (ap₂ (readerAfter (now (a .reader))) e (sym (ap (λ (s : Stepped). s .place) (t .step-at .ensures)))) }
+    record {
+      tells = given (ap stepTold e);
+      moves = sym (ap₂ (readerAfter _) e (sym (ap (λ (s : Stepped). s .place) (t .step-at .ensures))));
+    }
 
 returns-3 : tie.Need-returns-3
 unfolding stepTold readerAfter
 returns-3 c =
     let t = c .before .before .before in
-    let a = t .before .before .before .before .args in
     let e = sym (ap (λ (s : Stepped). s .answer) (t .step-at .ensures)) ∙ c .before .answer2 .given .1 in
-    record { tells = refusing (ap stepTold e); moves = sym (ap₂ (readerAfter (now (a .reader))) e (sym (ap (λ (s : Stepped). s .place) (t .step-at .ensures)))) }
+    record {
+      tells = refusing (ap stepTold e);
+      moves = sym (ap₂ (readerAfter _) e (sym (ap (λ (s : Stepped). s .place) (t .step-at .ensures))));
+    }
 
 pub zamgulekt-row-reader-step-spec : {M : Type 1} → statement M
 zamgulekt-row-reader-step-spec =

@@ -1,6 +1,6 @@
--- `exports::zamgulekt_symmetric_difference` meets its contract: it tells what `symmetric_difference` answers, and leaves what it leaves. Assumes nothing.
+-- `exports::zamgulekt_symmetric_difference` meets its contract: it tells what `symmetric_difference` answers, and leaves what it
+-- leaves. Assumes nothing.
 use Rattle.exports.proofs.Telling.{differs-as}
-use denote.Ref.{now}
 use borrow.Author.Needs.{needs}
 use Rattle.exports.proofs.zamgulekt_symmetric_difference.Statement.{statement}
 use Rattle.exports.proofs.zamgulekt_symmetric_difference.Tie as tie
@@ -9,11 +9,9 @@ returns : tie.Need-returns
 returns c =
     let t = c .before .before .before .before .before in
     let g = t .before .before .before .before in
-    let f = g .before in
-    let a = f .before .before .before .before .before .before .before .args in
     record {
       answer = t .symmetric-difference .result;
-      keeps = differs-as (now (a .top)) (now (a .blocks)) (now (a .top2)) (now (a .blocks2)) (now (a .to-top)) (now (a .to-blocks)) (f .filter-in .ensures)
+      keeps = differs-as _ _ _ _ _ _ (g .before .filter-in .ensures)
           (g .filter-in2 .ensures) (t .symmetric-difference .ensures);
       tells = c .put-made .ensures;
     }

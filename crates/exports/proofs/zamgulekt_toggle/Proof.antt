@@ -1,6 +1,5 @@
 -- `exports::zamgulekt_toggle` meets its contract: it tells what `toggle` answers, and leaves what it leaves. Assumes nothing.
 use Rattle.exports.proofs.Telling.{toggles-as}
-use denote.Ref.{now}
 use borrow.Author.Needs.{needs}
 use Rattle.exports.proofs.zamgulekt_toggle.Statement.{statement}
 use Rattle.exports.proofs.zamgulekt_toggle.Tie as tie
@@ -9,10 +8,9 @@ returns : tie.Need-returns
 returns c =
     let t = c .before .before .before .before .before in
     let f = t .before .before .before .before in
-    let a = f .before .before .before .before .before .args in
     record {
       answer = t .toggle .result;
-      keeps = toggles-as (now (a .top)) (now (a .blocks)) (now (a .list)) (f .filter-in .ensures) (t .toggle .ensures);
+      keeps = toggles-as _ _ _ (f .filter-in .ensures) (t .toggle .ensures);
       tells = c .put-made .ensures;
     }
 

@@ -1,4 +1,5 @@
--- `figures::figures_of` meets its contract: filters that were judged are refused by no call, so the figures are those of the sets shown. Assumes nothing.
+-- `figures::figures_of` meets its contract: filters that were judged are refused by no call, so the figures are those of the sets
+-- shown. Assumes nothing.
 use borrow.Author.Needs.{needs}
 use denote.Ref.{now}
 use Rattle.figures.proofs.Asked.{counts-fit, figures-are}

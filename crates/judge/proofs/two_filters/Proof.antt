@@ -9,24 +9,9 @@ use Rattle.judge.proofs.Verdicts.{room-told, two-first, two-second, two
 use borrow.Author.Needs.{needs}
 use Rattle.judge.proofs.two_filters.Statement.{statement}
 use Rattle.judge.proofs.two_filters.Tie as tie
-use Rattle.judge.proofs.two_filters.Reads as reads
-use Rattle.judge.proofs.two_filters.Lts as lts
-use Rattle.judge.proofs.has_room.Reads as has-room-reads
-use Rattle.judge.proofs.is_filter.Reads as is-filter-reads
-use Rattle.sizes.proofs.sizes_of.Reads as sizes-of-reads
-
-abbrev claims : lts.Claims
-claims = (
-  sizes-of-reads.Asked,
-  sizes-of-reads.Learnt,
-  has-room-reads.Asked,
-  has-room-reads.Learnt,
-  is-filter-reads.Asked,
-  is-filter-reads.Learnt,
-)
 
 -- the place where both configurations are known
-module _ (k : lts.After-known-told2 claims reads.Pre reads.Post) where
+module _ (k : tie.After-known-told2) where
   first :
       let j = k .before .before .before .before .before in
       let i = j .before .before .before in

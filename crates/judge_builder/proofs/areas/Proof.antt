@@ -6,9 +6,7 @@ use Rattle.judge_builder.proofs.areas.Statement.{statement}
 use Rattle.judge_builder.proofs.areas.Tie as tie
 
 returns : tie.Need-returns
-returns c =
-    let a = c .before .args in
-    c .areas .ensures ∙ areas-half (a .config) (a .pending) (a .bits)
+returns c = c .areas .ensures ∙ areas-half _ _ _
 
 pub areas-spec : {M : Type 1} → statement M
 areas-spec = tie.close (tie.spec (λ c κs. search needs) returns)

@@ -9,27 +9,22 @@ use Rattle.judge_builder.proofs.builder.Tie as tie
 
 is-builder-requires : tie.Need-is-builder-requires
 is-builder-requires c κs =
-    let a = c .before .before .before .before .before .before .args in
-    areas-room (a .config) (a .pending .now) (a .bits .now) (c .before .s .given .0 .0) (sym (c .before .before .before .areas .ensures) ∙ c .before .s .given .1)
+    areas-room _ _ _ _ (sym (c .before .before .before .areas .ensures) ∙ c .before .s .given .1)
 
 returns : tie.Need-returns
 returns c =
-    let a = c .before .before .before .before .before .before .before .before .args in
     let k = c .before .before .before in
-    builder-rest (a .config) (a .stage) (a .pending .now) (a .bits .now) (k .s .given .0 .0) (sym (k .before .before .areas .ensures) ∙ k .s .given .1)
-    false (sym (not-true (c .before .is-builder .result) (c .if1 .taken)) ∙ c .before .is-builder .ensures)
+    builder-rest _ _ _ _ _ (sym (k .before .before .areas .ensures) ∙ k .s .given .1)
+    false (sym (not-true _ (c .if1 .taken)) ∙ c .before .is-builder .ensures)
 
 returns-2 : tie.Need-returns-2
 returns-2 c =
-    let a = c .before .before .before .before .before .before .before .before .args in
     let k = c .before .before .before in
-    builder-rest (a .config) (a .stage) (a .pending .now) (a .bits .now) (k .s .given .0 .0) (sym (k .before .before .areas .ensures) ∙ k .s .given .1)
-    true (sym (not-false (c .before .is-builder .result) (c .if1 .left)) ∙ c .before .is-builder .ensures)
+    builder-rest _ _ _ _ _ (sym (k .before .before .areas .ensures) ∙ k .s .given .1)
+    true (sym (not-false _ (c .if1 .left)) ∙ c .before .is-builder .ensures)
 
 returns-3 : tie.Need-returns-3
-returns-3 c =
-    let a = c .before .before .before .before .before .before .args in
-    builder-no-areas (a .config) (a .stage) (a .pending .now) (a .bits .now) (c .before .r .given .0 .0) (sym (c .before .before .before .areas .ensures) ∙ c .before .r .given .1)
+returns-3 c = builder-no-areas _ _ _ _ _ (sym (c .before .before .before .areas .ensures) ∙ c .before .r .given .1)
 
 pub builder-spec : {M : Type 1} → statement M
 builder-spec =

@@ -7,14 +7,12 @@ use Rattle.judge_builder.proofs.builder_and_target.Tie as tie
 
 returns : tie.Need-returns
 returns c =
-    let a = c .before .before .before .before .before .before .args in
     c .builder .ensures
-    ∙ target-rest (a .config) (a .stage) (a .pending .now) (a .bits .now) (a .top) (a .blocks) (c .before .enum-told .given .0 .0) (sym (c .before .before .before .areas .ensures) ∙ c .before .enum-told .given .1)
+    ∙ target-rest _ _ _ _ _ _ _ (sym (c .before .before .before .areas .ensures) ∙ c .before .enum-told .given .1)
 
 returns-2 : tie.Need-returns-2
 returns-2 c =
-    let a = c .before .before .before .before .before .before .args in
-    target-no-areas (a .config) (a .stage) (a .pending .now) (a .bits .now) (a .top) (a .blocks) (c .before .r .given .0 .0) (sym (c .before .before .before .areas .ensures) ∙ c .before .r .given .1)
+    target-no-areas _ _ _ _ _ _ _ (sym (c .before .before .before .areas .ensures) ∙ c .before .r .given .1)
 
 pub builder-and-target-spec : {M : Type 1} → statement M
 builder-and-target-spec =

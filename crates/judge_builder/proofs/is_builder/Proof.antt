@@ -9,38 +9,34 @@ use Rattle.judge_builder.proofs.is_builder.Statement.{statement}
 use Rattle.judge_builder.proofs.is_builder.Tie as tie
 
 returns : tie.Need-returns
-returns c =
-    let a = c .before .before .before .args in
-    unsound (a .m) (a .k) (a .pending .now) (a .bits .now) (a .stage) (λ S. omega (arith, c .if1 .taken, S .few))
+returns c = unsound _ _ _ _ _ (λ S. omega (arith, c .if1 .taken, S .few))
 
 returns-2 : tie.Need-returns-2
-returns-2 c =
-    let a = c .before .before .before .before .before .args in
-    unsound (a .m) (a .k) (a .pending .now) (a .bits .now) (a .stage) (λ S. omega (arith, c .if2 .taken, S .low))
+returns-2 c = unsound _ _ _ _ _ (λ S. omega (arith, c .if2 .taken, S .low))
 
 slice-aggregate-all-below : tie.Need-slice-aggregate-all-below
 slice-aggregate-all-below c =
-    let s = c .before .before .before .before .before .before in
-    sym (length-take-le (s .args .stage .count) (s .args .pending .now) (omega (arith, s .pre .cells)))
+    let k = c .before .before .before in
+    let s = k .before .before .before in
+    sym (length-take-le _ _ (omega (arith, s .pre .cells)))
 
 returns-3 : tie.Need-returns-3
 returns-3 c =
-    let a = c .before .before .before .before .before .before .before .before .args in
     let r = c .before .all-below in
-    past-range (a .m) (a .k) (a .pending .now) (a .bits .now) (a .stage) (r .result) (r .ensures) (not-true (r .result) (c .if3 .taken))
+    past-range _ _ _ _ _ _ (r .ensures) (not-true _ (c .if3 .taken))
 
 returns-4 : tie.Need-returns-4
-returns-4 c =
-    let a = c .before .before .before .before .before .before .before .before .before .before .args in
-    unsound (a .m) (a .k) (a .pending .now) (a .bits .now) (a .stage) (λ S. c .if4 .taken (c .before .or-cells .ensures .1 (S .unused)))
+returns-4 c = unsound _ _ _ _ _ (λ S. c .if4 .taken (c .before .or-cells .ensures .1 (S .unused)))
 
 returns-5 : tie.Need-returns-5
 returns-5 c =
-    let a = c .before .before .before .before .before .before .before .before .before .before .before .args in
-    let r = c .before .before .before .before .all-below in
-    by-bits (a .m) (a .k) (a .pending .now) (a .bits .now) (a .stage) (r .result) (r .ensures) (not-false (r .result) (c .before .before .before .if3 .left))
-    (c .before .before .before .before .before .before .before .before .if1 .left) (c .before .before .before .before .before .before .if2 .left)
-    (c .before .before .or-cells .ensures .0 (c .before .if4 .left)) (c .bits-fit .result) (c .bits-fit .ensures)
+    let o = c .before .before in
+    let a = o .before .before in
+    let i = a .before .before in
+    let r = a .all-below in
+    by-bits _ _ _ _ _ _ (r .ensures) (not-false _ (o .before .if3 .left))
+    (i .before .before .if1 .left) (i .if2 .left)
+    (o .or-cells .ensures .0 (c .before .if4 .left)) _ (c .bits-fit .ensures)
 
 pub is-builder-spec : {M : Type 1} → statement M
 is-builder-spec =

@@ -10,7 +10,7 @@ returns c = no-blocks _ _ _ _ (c .if1 .taken) (c .before .before .pre .0)
 
 returns-2 : tie.Need-returns-2
 returns-2 c =
-    high-tells _ _ _ _ (c .read-u64 .result) (c .before .before .before .pre .0) (c .before .if1 .left) (omega arith) (c .read-u64 .ensures)
+    high-tells _ _ _ _ _ (c .before .before .before .pre .0) (c .before .if1 .left) (omega arith) (c .read-u64 .ensures)
 
 pub high-fits-spec : {M : Type 1} → statement M
 high-fits-spec =

@@ -25,34 +25,42 @@ returns c n e =
     not-counted n _ e (k .pre .1 .0 n e) (k .pre .1 .1) (b .boundary-of .ensures) (c .before .before .num-blocks .ensures) (c .if1 .taken)
 
 sub-spare-fits : tie.Need-sub-spare-fits
-sub-spare-fits c = stand (c .before .before .before .before .before .before) .spareAt
+sub-spare-fits c =
+    let k = c .before .before .before in
+    let j = k .before .before .before in
+    stand j .spareAt
 
 spare-fits-requires : tie.Need-spare-fits-requires
 spare-fits-requires c κs h =
-    spare-in (stand (c .before .before .before .before .before .before)) (c .before .before .before .num-blocks .ensures) (c .before .if1 .left) h
+    let n = c .before .before .before in
+    spare-in (stand (n .before .before .before)) (n .num-blocks .ensures) (c .before .if1 .left) h
 
 returns-2 : tie.Need-returns-2
 returns-2 c n e =
-    let b = c .before .before .before .before .before .before in
-    let k = b .before .before in
-    not-spare n _ e (k .pre .1 .0 n e) (k .pre .1 .1) (b .boundary-of .ensures) (c .before .before .before .before .before .num-blocks .ensures)
-    (c .before .before .before .if1 .left) (c .before .spare-fits .ensures) (c .if2 .taken)
+    let i = c .before .before .before in
+    let b = i .before .before in
+    let k = b .before .before .before in
+    not-spare n _ e (k .pre .1 .0 n e) (k .pre .1 .1) (b .before .boundary-of .ensures) (b .num-blocks .ensures)
+    (i .if1 .left) (c .before .spare-fits .ensures) (c .if2 .taken)
 
 high-fits-requires : tie.Need-high-fits-requires
 high-fits-requires c κs =
-    let b = c .before .before .before .before .before .before in
-    let k = b .before .before in (
-      c .before .before .before .if1 .left ∙ c .before .before .before .before .before .num-blocks .ensures,
+    let i = c .before .before .before in
+    let n = i .before .before in
+    let k = n .before .before .before in (
+      i .if1 .left ∙ n .num-blocks .ensures,
       blocks-in (stand k),
-      edge-small (stand k) (k .pre .1 .1) (b .boundary-of .ensures),
+      edge-small (stand k) (k .pre .1 .1) (n .before .boundary-of .ensures),
     )
 
 returns-3 : tie.Need-returns-3
 returns-3 c n e =
-    let b = c .before .before .before .before .before .before .before in
-    let k = b .before .before in
-    high-decides n _ e (k .pre .1 .0 n e) (k .pre .1 .1) (b .boundary-of .ensures) (c .before .before .before .before .before .before .num-blocks .ensures)
-    (c .before .before .before .before .if1 .left) (c .before .before .spare-fits .ensures) (c .before .if2 .left) (c .high-fits .ensures)
+    let s = c .before .before in
+    let i = s .before .before in
+    let b = i .before .before in
+    let k = b .before .before .before in
+    high-decides n _ e (k .pre .1 .0 n e) (k .pre .1 .1) (b .before .boundary-of .ensures) (b .num-blocks .ensures)
+    (i .if1 .left) (s .spare-fits .ensures) (c .before .if2 .left) (c .high-fits .ensures)
 
 pub is-faultless-spec : {M : Type 1} → statement M
 is-faultless-spec =

@@ -15,7 +15,9 @@ add-at : tie.Need-add-at
 add-at c = omega (arith, row-sizes (c .before .before .before .pre) .1)
 
 returns : tie.Need-returns
-returns c = layout-is (c .before .before .before .before .args .row .now) _ _ _ (c .before .before .least .ensures) (c .blocks-from .ensures)
+returns c =
+    let l = c .before .before in
+    layout-is (l .before .before .args .row .now) _ _ _ (l .least .ensures) (c .blocks-from .ensures)
 
 pub layout-of-spec : {M : Type 1} → statement M
 layout-of-spec =

@@ -11,15 +11,20 @@ length-fits-requires c κs = row-listed _ (c .before .before .before .sizes-of .
 
 returns : tie.Need-returns
 returns c =
-    row-misfit _ _ (c .before .before .before .before .before .sizes-of .ensures) (c .before .before .before .s .given .1) (c .before .length-fits .ensures) (c .if1 .taken)
+    let k = c .before .before .before in
+    row-misfit _ _ (k .before .before .sizes-of .ensures) (k .s .given .1) (c .before .length-fits .ensures)
+    (c .if1 .taken)
 
 layout-of-requires : tie.Need-layout-of-requires
-layout-of-requires c κs = row-listed _ (c .before .before .before .before .before .sizes-of .ensures) (c .before .before .before .s .given .1)
+layout-of-requires c κs =
+    let k = c .before .before .before in
+    row-listed _ (k .before .before .sizes-of .ensures) (k .s .given .1)
 
 entries-fall-requires : tie.Need-entries-fall-requires
 entries-fall-requires c κs =
     let s = c .before .before .before .before in
-    let p = row-placed _ (s .before .before .before .before .args .row .now) (s .before .before .sizes-of .ensures) (s .s .given .1) (c .layout-of .ensures) in
+    let o = s .before .before in
+    let p = row-placed _ (o .before .before .args .row .now) (o .sizes-of .ensures) (s .s .given .1) (c .layout-of .ensures) in
     (p .width, p .entriesIn)
 
 unfallen-requires : tie.Need-unfallen-requires
@@ -38,23 +43,27 @@ is-faultless-requires c κs =
     let l = c .before .before in
     let s = l .before .before .before .before in (
       row-listed _ (s .before .before .sizes-of .ensures) (s .s .given .1),
-      (l .layout-of .ensures, sym (not-false (c .before .entries-fall .result) (c .if2 .left)) ∙ c .before .entries-fall .ensures),
+      (l .layout-of .ensures, sym (not-false _ (c .if2 .left)) ∙ c .before .entries-fall .ensures),
     )
 
 returns-3 : tie.Need-returns-3
 returns-3 c =
-    let l = c .before .before .before .before in
-    let s = l .before .before .before .before in
+    let i = c .before .before in
+    let l = i .before .before in
+    let f = l .before .before in
+    let s = f .before .before in
     row-faulty _ _ (s .before .before .sizes-of .ensures) (s .s .given .1) (l .layout-of .ensures)
-    (l .before .before .length-fits .ensures) (l .before .if1 .left) (c .before .before .before .entries-fall .ensures) (c .before .before .if2 .left)
+    (f .length-fits .ensures) (l .before .if1 .left) (i .before .entries-fall .ensures) (i .if2 .left)
     (c .before .is-faultless .ensures) (c .if3 .taken)
 
 returns-4 : tie.Need-returns-4
 returns-4 c =
-    let l = c .before .before .before .before in
-    let s = l .before .before .before .before in
+    let i = c .before .before in
+    let l = i .before .before in
+    let f = l .before .before in
+    let s = f .before .before in
     row-fits _ _ (s .before .before .sizes-of .ensures) (s .s .given .1) (l .layout-of .ensures)
-    (l .before .before .length-fits .ensures) (l .before .if1 .left) (c .before .before .before .entries-fall .ensures) (c .before .before .if2 .left)
+    (f .length-fits .ensures) (l .before .if1 .left) (i .before .entries-fall .ensures) (i .if2 .left)
     (c .before .is-faultless .ensures) (c .if3 .left)
 
 returns-5 : tie.Need-returns-5

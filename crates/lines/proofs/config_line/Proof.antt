@@ -9,31 +9,32 @@ use Rattle.lines.proofs.config_line.Tie as tie
 returns : tie.Need-returns
 returns c =
     let k = c .before in
-    bare (k .before .before .before .args .line .now) (sym (c .if1 .taken) ∙ k .equals .ensures)
+    bare _ (sym (c .if1 .taken) ∙ k .equals .ensures)
 
 returns-2 : tie.Need-returns-2
 returns-2 c =
-    let k = c .before in
-    let e = k .before .before in
-    no-config (e .before .before .before .before .args .line .now) (sym (e .if1 .left) ∙ e .before .equals .ensures) (k .starts-with .ensures)
-    (not-true (k .starts-with .result) (c .if2 .taken))
+    let e = c .before .before .before in
+    let a = e .before .before .before .before .args in
+    no-config (a .line .now) (sym (e .if1 .left) ∙ e .before .equals .ensures) (c .before .starts-with .ensures)
+    (not-true (c .before .starts-with .result) (c .if2 .taken))
 
 sub-numbered : tie.Need-sub-numbered
 sub-numbered c =
-    let k = c .before in
-    let e = k .before .before in
-    config-long (e .before .before .before .before .args .line .now) (sym (e .if1 .left) ∙ e .before .equals .ensures) (k .starts-with .ensures)
-    (not-false (k .starts-with .result) (c .if2 .left))
+    let e = c .before .before .before in
+    let a = e .before .before .before .before .args in
+    config-long (a .line .now) (sym (e .if1 .left) ∙ e .before .equals .ensures) (c .before .starts-with .ensures)
+    (not-false (c .before .starts-with .result) (c .if2 .left))
 
 part-numbered-start : tie.Need-part-numbered-start
 part-numbered-start c = sub-numbered c
 
 returns-3 : tie.Need-returns-3
 returns-3 c =
-    let k = c .before .before .before in
-    let e = k .before .before in
-    config-told (e .before .before .before .before .args .line .now) (sym (e .if1 .left) ∙ e .before .equals .ensures) (k .starts-with .ensures)
-    (not-false (k .starts-with .result) (c .before .before .if2 .left)) (c .numbered .ensures)
+    let i = c .before .before in
+    let e = i .before .before .before in
+    let a = e .before .before .before .before .args in
+    config-told (a .line .now) (sym (e .if1 .left) ∙ e .before .equals .ensures) (i .before .starts-with .ensures)
+    (not-false (i .before .starts-with .result) (i .if2 .left)) (c .numbered .ensures)
 
 pub config-line-spec : {M : Type 1} → statement M
 config-line-spec =

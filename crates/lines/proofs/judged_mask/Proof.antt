@@ -7,12 +7,12 @@ use Rattle.lines.proofs.judged_mask.Tie as tie
 returns : tie.Need-returns
 returns c =
     let k = c .before .before in
-    mask-taken (k .before .args .mask) (k .before .args .size) (k .mask .ensures) (c .enum-told .given .1)
+    mask-taken _ _ (k .mask .ensures) (c .enum-told .given .1)
 
 returns-2 : tie.Need-returns-2
 returns-2 c =
     let k = c .before .before .before in
-    mask-not (k .before .args .mask) (k .before .args .size) (k .mask .ensures) (c .before .r .given .1)
+    mask-not _ _ (k .mask .ensures) (c .before .r .given .1)
 
 pub judged-mask-spec : {M : Type 1} → statement M
 judged-mask-spec = tie.close (tie.spec (λ c κs. search needs) (λ c. search needs) (λ c. search needs) returns returns-2)

@@ -16,7 +16,8 @@ returns c =
     other-length ds (c .before .if1 .taken) (not-true (eqb (length ds) 2) (c .if2 .taken))
 
 -- past the first test there are one or two bytes
-few : (c : tie.Joined1) → (eqb (length (c .before .before .args .digits .now)) 1 || eqb (length (c .before .before .args .digits .now)) 2) ≡ true
+few : (c : tie.Joined1)
+    → (eqb (length (c .before .before .args .digits .now)) 1 || eqb (length (c .before .before .args .digits .now)) 2) ≡ true
 few c =
     let n = length (c .before .before .args .digits .now) in
     ⊎-elim (λ w. rw (ne-eqb n 1 (w .0 .taken)) (not-false (eqb n 2) (w .1 .left))) (λ w. rw (eq-eqb n 1 (w .left))) (c .if1 .came)
@@ -24,13 +25,13 @@ few c =
 returns-2 : tie.Need-returns-2
 returns-2 c =
     let k = c .before in
-    other-byte (k .before .before .before .args .digits .now) (sym (not-true (k .all-digits .result) (c .if3 .taken)) ∙ k .all-digits .ensures)
+    other-byte (k .before .before .before .args .digits .now) (sym (not-true _ (c .if3 .taken)) ∙ k .all-digits .ensures)
 
 returns-3 : tie.Need-returns-3
 returns-3 c =
     let k = c .before .before .before .before in
     is-seven (k .before .before .before .args .digits .now) (few (k .before))
-    (sym (not-false (k .all-digits .result) (c .before .before .before .if3 .left)) ∙ k .all-digits .ensures)
+    (sym (not-false _ (c .before .before .before .if3 .left)) ∙ k .all-digits .ensures)
     (sym (c .if4 .taken) ∙ c .before .equals .ensures)
 
 returns-4 : tie.Need-returns-4
@@ -38,7 +39,7 @@ returns-4 c =
     let i = c .before .before .before in
     let k = i .before .before .before .before in
     is-ten (k .before .before .before .args .digits .now) (few (k .before))
-    (sym (not-false (k .all-digits .result) (i .before .before .before .if3 .left)) ∙ k .all-digits .ensures)
+    (sym (not-false _ (i .before .before .before .if3 .left)) ∙ k .all-digits .ensures)
     (sym (i .if4 .left) ∙ i .before .equals .ensures) (sym (c .if5 .taken) ∙ c .before .equals2 .ensures)
 
 returns-5 : tie.Need-returns-5
@@ -46,7 +47,7 @@ returns-5 c =
     let i = c .before .before .before in
     let k = i .before .before .before .before in
     is-neither (k .before .before .before .args .digits .now) (few (k .before))
-    (sym (not-false (k .all-digits .result) (i .before .before .before .if3 .left)) ∙ k .all-digits .ensures)
+    (sym (not-false _ (i .before .before .before .if3 .left)) ∙ k .all-digits .ensures)
     (sym (i .if4 .left) ∙ i .before .equals .ensures) (sym (c .if5 .left) ∙ c .before .equals2 .ensures)
 
 pub numbered-spec : {M : Type 1} → statement M

@@ -9,12 +9,10 @@ use Rattle.lines.proofs.row_line.Tie as tie
 array-share-prefix-row : tie.Need-array-share-prefix-row
 array-share-prefix-row c =
     let k = c .before .before .before .before in
-    row-in (k .before .before .before .before .before .args .line .now) (k .from-hex .last .1 .0) (k .from-hex .ensures) (c .before .n .given .1)
+    row-in _ _ (k .from-hex .ensures) (c .before .n .given .1)
 
 slice-aggregate-read : tie.Need-slice-aggregate-read
-slice-aggregate-read c =
-    let k = c .before .before .before .before .before in
-    sym (length-take-le (c .before .before .n .given .0 .0) (k .from-hex .last .1 .0) (array-share-prefix-row (c .before)))
+slice-aggregate-read c = sym (length-take-le _ _ (array-share-prefix-row (c .before)))
 
 returns : tie.Need-returns
 returns c =
@@ -22,14 +20,12 @@ returns c =
     let i = r .before .before .before .before .before in
     let k = i .before .before .before in
     let s = k .before .before .before .before .before in
-    row-told (s .args .line .now) (k .from-hex .last .1 .0) (k .from-hex .ensures) (s .args .config) (s .args .top .now) (s .args .blocks .now)
+    row-told _ _ (k .from-hex .ensures) _ _ _
     (i .n .given .1) (s .pre .1) (r .read .ensures)
 
 returns-2 : tie.Need-returns-2
 returns-2 c =
-    let k = c .before .before .before in
-    let s = k .before .before .before .before .before in
-    no-hex (s .args .line .now) (k .from-hex .last .1 .0) (k .from-hex .ensures) (s .args .config) (s .args .top .now) (s .args .blocks .now)
+    no-hex _ _ (c .before .before .before .from-hex .ensures) _ _ _
     (c .enum-told .given .1)
 
 pub row-line-spec : {M : Type 1} → statement M

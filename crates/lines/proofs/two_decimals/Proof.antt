@@ -12,7 +12,7 @@ use Rattle.lines.proofs.two_decimals.Tie as tie
 returns : tie.Need-returns
 returns c =
     let k = c .before .before in
-    no-space (k .before .before .args .text .now) (k .find .ensures) (c .enum-told .given .1)
+    no-space _ (k .find .ensures) (c .enum-told .given .1)
 
 -- the space stands in the text
 end-in : (c : tie.After-end) → c .end .given .0 .0 < length (c .before .before .before .before .args .text .now)
@@ -23,20 +23,26 @@ end-in c =
 slice-aggregate-decimal : tie.Need-slice-aggregate-decimal
 slice-aggregate-decimal c =
     let e = c .before .before in
-    sym (length-take-le (e .end .given .0 .0) (e .before .before .before .before .args .text .now) (omega (arith, end-in e)))
+    sym (length-take-le _ _ (omega (arith, end-in e)))
 
 returns-2 : tie.Need-returns-2
 returns-2 c =
     let d = c .before .before in
     let e = d .before .before .before in
     let k = e .before .before in
-    no-mask (k .before .before .args .text .now) (k .find .ensures) (e .end .given .1) (d .decimal .ensures) (c .enum-told2 .given .1)
+    no-mask _ (k .find .ensures) (e .end .given .1) (d .decimal .ensures) (c .enum-told2 .given .1)
 
 add-next : tie.Need-add-next
-add-next c = omega (arith, end-in (c .before .before .before .before .before .before))
+add-next c =
+    let k = c .before .before .before in
+    let j = k .before .before .before in
+    omega (arith, end-in j)
 
 sub-decimal : tie.Need-sub-decimal
-sub-decimal c = omega (arith, end-in (c .before .before .before .before .before .before))
+sub-decimal c =
+    let k = c .before .before .before in
+    let j = k .before .before .before in
+    omega (arith, end-in j)
 
 part-decimal-start : tie.Need-part-decimal-start
 part-decimal-start c = sub-decimal c
@@ -48,7 +54,7 @@ returns-3 c =
     let d = m .before .before in
     let e = d .before .before .before in
     let k = e .before .before in
-    two-told (k .before .before .args .text .now) (k .find .ensures) (e .end .given .1) (d .decimal .ensures) (m .mask .given .1) (b .decimal2 .ensures)
+    two-told _ (k .find .ensures) (e .end .given .1) (d .decimal .ensures) (m .mask .given .1) (b .decimal2 .ensures)
     (c .before .before .size .given .1) (c .judged-mask .ensures)
 
 returns-4 : tie.Need-returns-4
@@ -58,7 +64,7 @@ returns-4 c =
     let d = m .before .before in
     let e = d .before .before .before in
     let k = e .before .before in
-    no-size (k .before .before .args .text .now) (k .find .ensures) (e .end .given .1) (d .decimal .ensures) (m .mask .given .1) (b .decimal2 .ensures)
+    no-size _ (k .find .ensures) (e .end .given .1) (d .decimal .ensures) (m .mask .given .1) (b .decimal2 .ensures)
     (c .enum-told3 .given .1)
 
 pub two-decimals-spec : {M : Type 1} → statement M

@@ -1,4 +1,5 @@
--- `masked::cmp_masked` meets its contract: a judge's refusal is the call's, and where both judges pass the walks go over the sets shown. Assumes nothing.
+-- `masked::cmp_masked` meets its contract: a judge's refusal is the call's, and where both judges pass the walks go over the sets
+-- shown. Assumes nothing.
 use borrow.Author.Needs.{needs}
 use denote.Ref.{now}
 use native.Mathlib.Omega.{arith}
@@ -9,12 +10,10 @@ use Rattle.masked.proofs.cmp_masked.Tie as tie
 
 -- where the judge knows both filters
 told : (k : tie.After-s) →
-    let s = k .before .before .before .before .before .before .before in
-    Two (s .args .a) (now (s .args .top)) (now (s .args .blocks)) (s .args .b) (now (s .args .top2)) (now (s .args .blocks2)) (k .s .given .0 .0)
-told k =
-    let s = k .before .before .before .before .before .before .before in
-    two (s .args .a) (now (s .args .top)) (now (s .args .blocks)) (s .args .b) (now (s .args .top2)) (now (s .args .blocks2)) (k .s .given .0 .0)
-    (k .before .before .filters-lent .ensures) (k .s .given .1)
+    let f = k .before .before in
+    let s = f .before .before .before .before .before .args in
+    Two (s .a) (now (s .top)) (now (s .blocks)) (s .b) (now (s .top2)) (now (s .blocks2)) (k .s .given .0 .0)
+told k = two _ _ _ _ _ _ _ (k .before .before .filters-lent .ensures) (k .s .given .1)
 
 num-blocks-requires : tie.Need-num-blocks-requires
 num-blocks-requires c κs = omega (arith, told (c .before .before .before .before) .fits)
@@ -29,32 +28,32 @@ repeat-mask-requires c κs =
 
 order-requires : tie.Need-order-requires
 order-requires c κs =
-    let t = c .before .before .before in
-    let w = told (t .before .before .before .before) in (
-      fits-walk (c .before .before .num-blocks .result) (c .before .before .num-blocks .ensures) (w .fits) .0,
-      (fits-walk (c .before .num-blocks2 .result) (c .before .num-blocks2 .ensures) (w .fits2) .0, block-laid _ _ (t .before .before .mask .ensures) (t .enum-told .given .1) (c .repeat-mask .ensures)),
+    let n = c .before .before in
+    let m = n .before .before .before in
+    let w = told (m .before .before) in (
+      fits-walk _ (n .num-blocks .ensures) (w .fits) .0,
+      (
+        fits-walk _ (c .before .num-blocks2 .ensures) (w .fits2) .0,
+        block-laid _ _ (m .mask .ensures) (n .before .enum-told .given .1) (c .repeat-mask .ensures),
+      ),
     )
 
 returns : tie.Need-returns
 returns c =
-    let t = c .before .before .before .before in
-    let k = t .before .before .before .before in
-    let s = k .before .before .before .before .before .before .before in
-    cmp-done (s .args .a) _ _ (s .args .b) _ _ _ _ (told k) (t .before .before .mask .ensures) (t .enum-told .given .1)
-    (c .before .before .before .num-blocks .ensures) (c .before .before .num-blocks2 .ensures) (c .before .repeat-mask .ensures) (c .order .ensures)
+    let n = c .before .before in
+    let t = n .before .before in
+    let m = t .before .before in
+    cmp-done _ _ _ _ _ _ _ _ (told (m .before .before)) (m .mask .ensures) (t .enum-told .given .1)
+    (n .before .num-blocks .ensures) (n .num-blocks2 .ensures) (c .before .repeat-mask .ensures) (c .order .ensures)
 
 returns-2 : tie.Need-returns-2
 returns-2 c =
-    let k = c .before .before .before .before .before in
-    let s = k .before .before .before .before .before .before .before in
-    cmp-unmasked (s .args .a) _ _ (s .args .b) _ _ _ _ (told k) (c .before .before .before .mask .ensures) (c .before .r .given .1)
+    let m = c .before .before .before in
+    cmp-unmasked _ _ _ _ _ _ _ _ (told (m .before .before)) (m .mask .ensures) (c .before .r .given .1)
 
 returns-3 : tie.Need-returns-3
 returns-3 c =
-    let s = c .before .before .before .before .before .before .before .before in
-    cmp-refused (s .args .a) (now (s .args .top)) (now (s .args .blocks)) (s .args .b) (now (s .args .top2)) (now (s .args .blocks2)) _ _
-    (two-not (s .args .a) (now (s .args .top)) (now (s .args .blocks)) (s .args .b) (now (s .args .top2)) (now (s .args .blocks2)) (c .before .r2 .given .0 .0)
-    (c .before .before .before .filters-lent .ensures) (c .before .r2 .given .1))
+    cmp-refused _ _ _ _ _ _ _ _ (two-not _ _ _ _ _ _ _ (c .before .before .before .filters-lent .ensures) (c .before .r2 .given .1))
 
 pub cmp-masked-spec : {M : Type 1} → statement M
 cmp-masked-spec =

@@ -8,7 +8,8 @@ use Rattle.masked.proofs.deciding_block.Tie as tie
 
 abbrev Inv-loop : tie.InvT-loop
 Inv-loop top count blocks n top2 count2 blocks2 n2 mask size k at₀ at =
-    Differing (filterSet top count blocks n) (filterSet top2 count2 blocks2 n2) mask size (take count top) (take count2 top2) k (at .passed) (at .passed2) (at .end)
+    Differing (filterSet top count blocks n) (filterSet top2 count2 blocks2 n2) mask size (take count top) (take count2 top2) k
+    (at .passed) (at .passed2) (at .end)
 
 abbrev μ-loop : tie.MeasureT-loop
 μ-loop top count blocks n top2 count2 blocks2 n2 mask size k at₀ at = at .end
@@ -20,10 +21,11 @@ loop-holds c =
 
 masked-block-requires : tie.Need-masked-block-requires Inv-loop μ-loop
 masked-block-requires c κs =
-    let k = c .before in
-    let t = k .before .before .before .loop .inv in
-    let s = k .before .before .before .before .before .before .before .before in
-    (s .pre .1 .1, differ-step t (k .block .given .1) (k .before .before .next-xor-chunk .ensures) .ahead .small)
+    let n = c .before .before .before in
+    let k = n .before .before .before in
+    let s = k .before .before .before in
+    let t = n .before .loop .inv in
+    (s .pre .1 .1, differ-step t (c .before .block .given .1) (n .next-xor-chunk .ensures) .ahead .small)
 
 loop-less : tie.Need-loop-less Inv-loop μ-loop
 loop-less c =
@@ -33,12 +35,16 @@ loop-less c =
 loop-again : tie.Need-loop-again Inv-loop μ-loop
 loop-again c =
     let k = c .before .before .before in
-    differ-turn (k .before .before .before .loop .inv) (k .block .given .1) (k .before .before .next-xor-chunk .ensures) (c .before .masked-block .ensures) (c .if1 .left)
+    let n = k .before .before in
+    differ-turn (n .before .loop .inv) (k .block .given .1) (n .next-xor-chunk .ensures)
+    (c .before .masked-block .ensures) (c .if1 .left)
 
 returns : tie.Need-returns Inv-loop μ-loop
 returns c =
     let k = c .before .before .before in
-    differ-end (k .before .before .before .loop .inv) (k .block .given .1) (k .before .before .next-xor-chunk .ensures) (c .before .masked-block .ensures) (c .if1 .taken)
+    let n = k .before .before in
+    differ-end (n .before .loop .inv) (k .block .given .1) (n .next-xor-chunk .ensures)
+    (c .before .masked-block .ensures) (c .if1 .taken)
 
 returns-2 : tie.Need-returns-2 Inv-loop μ-loop
 returns-2 c =

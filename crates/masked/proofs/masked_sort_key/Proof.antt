@@ -1,4 +1,5 @@
--- `masked::masked_sort_key` meets its contract: a judge's refusal is the call's, and where both judges pass the walk goes over the set shown. Assumes nothing.
+-- `masked::masked_sort_key` meets its contract: a judge's refusal is the call's, and where both judges pass the walk goes over
+-- the set shown. Assumes nothing.
 use borrow.Author.Needs.{needs}
 use denote.Ref.{now}
 use native.Mathlib.Omega.{arith}
@@ -13,7 +14,8 @@ told : (k : tie.After-s) →
     One (s .args .f) (now (s .args .top)) (now (s .args .blocks)) (k .s .given .0 .0)
 told k =
     let s = k .before .before .before .before .before in
-    one (s .args .f) (now (s .args .top)) (now (s .args .blocks)) (k .s .given .0 .0) (k .before .before .filter-lent .ensures) (k .s .given .1)
+    one (s .args .f) (now (s .args .top)) (now (s .args .blocks)) (k .s .given .0 .0) (k .before .before .filter-lent .ensures)
+    (k .s .given .1)
 
 num-blocks-requires : tie.Need-num-blocks-requires
 num-blocks-requires c κs = omega (arith, told (c .before .before .before .before) .fits)
@@ -27,7 +29,7 @@ pack-requires : tie.Need-pack-requires
 pack-requires c κs =
     let t = c .before .before in
     let w = told (t .before .before .before .before) in (
-      fits-walk (c .before .num-blocks .result) (c .before .num-blocks .ensures) (w .fits) .0,
+      fits-walk _ (c .before .num-blocks .ensures) (w .fits) .0,
       (block-laid _ _ (t .before .before .mask .ensures) (t .enum-told .given .1) (c .repeat-mask .ensures), slot-bits _ (w .sizes)),
     )
 
@@ -45,9 +47,10 @@ returns-2 c =
 
 returns-3 : tie.Need-returns-3
 returns-3 c =
-    let s = c .before .before .before .before .before .before in
-    key-refused (s .args .f) (now (s .args .top)) (now (s .args .blocks)) _ _
-    (one-not (s .args .f) (now (s .args .top)) (now (s .args .blocks)) (c .before .r2 .given .0 .0) (c .before .before .before .filter-lent .ensures) (c .before .r2 .given .1))
+    let f = c .before .before .before in
+    let s = f .before .before .before .args in
+    key-refused _ (now (s .top)) (now (s .blocks)) _ _
+    (one-not _ (now (s .top)) (now (s .blocks)) _ (f .filter-lent .ensures) (c .before .r2 .given .1))
 
 pub masked-sort-key-spec : {M : Type 1} → statement M
 masked-sort-key-spec =

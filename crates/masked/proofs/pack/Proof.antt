@@ -33,29 +33,42 @@ returns-2 c =
 add-t22 : tie.Need-add-t22 Inv-loop μ-loop
 add-t22 c =
     let k = c .before .before .before in
-    let l = k .before .before .before in
-    record { fits = last-fits (l .loop .inv) (k .p .given .1) (k .before .before .next-one .ensures) (l .before .before .before .pre .1 .1) (c .before .if1 .left) (c .if2 .taken) }
+    let n = k .before .before in
+    let s = n .before .before .before .before in
+    record {
+      fits = last-fits (n .before .loop .inv) (k .p .given .1) (n .next-one .ensures) (s .pre .1 .1) (c .before .if1 .left) (c .if2 .taken);
+    }
 
 returns-3 : tie.Need-returns-3 Inv-loop μ-loop
 returns-3 c =
     let k = c .before .before .before in
-    let l = k .before .before .before in
-    pack-last (l .loop .inv) (k .p .given .1) (k .before .before .next-one .ensures) (l .before .before .before .pre .1 .1) (c .before .if1 .left) (c .if2 .taken)
+    let n = k .before .before in
+    let s = n .before .before .before .before in
+    pack-last (n .before .loop .inv) (k .p .given .1) (n .next-one .ensures) (s .pre .1 .1) (c .before .if1 .left)
+    (c .if2 .taken)
 
 shl-key : tie.Need-shl-key Inv-loop μ-loop
-shl-key c = omega (arith, c .before .before .before .before .before .before .loop .inv .small)
+shl-key c =
+    let k = c .before .before .before in
+    let l = k .before .before .before in
+    omega (arith, l .loop .inv .small)
 
 add-key : tie.Need-add-key Inv-loop μ-loop
 add-key c =
     let k = c .before .before .before in
-    let l = k .before .before .before in
-    record { fits = pack-fits (l .loop .inv) (k .p .given .1) (k .before .before .next-one .ensures) (l .before .before .before .pre .1 .1) (c .before .if1 .left) (c .if2 .left) }
+    let n = k .before .before in
+    let s = n .before .before .before .before in
+    record {
+      fits = pack-fits (n .before .loop .inv) (k .p .given .1) (n .next-one .ensures) (s .pre .1 .1) (c .before .if1 .left) (c .if2 .left);
+    }
 
 loop-again : tie.Need-loop-again Inv-loop μ-loop
 loop-again c =
     let k = c .before .before .before in
-    let l = k .before .before .before in
-    pack-turn (l .loop .inv) (k .p .given .1) (k .before .before .next-one .ensures) (l .before .before .before .pre .1 .1) (c .before .if1 .left) (c .if2 .left)
+    let n = k .before .before in
+    let s = n .before .before .before .before in
+    pack-turn (n .before .loop .inv) (k .p .given .1) (n .next-one .ensures) (s .pre .1 .1) (c .before .if1 .left)
+    (c .if2 .left)
 
 pub pack-spec : {M : Type 1} → statement M
 pack-spec =

@@ -12,8 +12,11 @@ toggle-all-requires c κs =
     fold-fits (s .pre .0) (s .pre .1 .0)
 
 -- what stands at or above the split is taken out
-is-taken : (c : tie.Joined1) → Taken (c .before .before .before .before .before .before .before .before .before .before .args .k) (c .before .settle .result .split) (c .before .settle .result .count)
-    (c .before .before .before .before .before .before .before .before .before .before .args .pending .now) (c .before .before .before .before .before .toggle-all .last .0) (c .if1 .pending) (c .if1 .bits)
+is-taken : (c : tie.Joined1) →
+    let r = c .before .settle .result in
+    let t = c .before .before .before .before .before in
+    let a = t .before .before .before .before .before .args in
+    Taken (a .k) (r .split) (r .count) (a .pending .now) (t .toggle-all .last .0) (c .if1 .pending) (c .if1 .bits)
 is-taken c =
     let g = c .before in
     ⊎-elim
@@ -23,10 +26,10 @@ is-taken c =
 
 zero-cells-requires : tie.Need-zero-cells-requires
 zero-cells-requires c κs =
-    let j = c .before in
-    let g = j .before in
-    let s = g .before .before .before .before .before .before .before .before .before in
-    omega (arith, g .settle .ensures .few, is-taken j .pendingLength, s .pre .0 .cells)
+    let g = c .before .before in
+    let k = g .before .before .before .before .before in
+    let s = k .before .before .before .before in
+    omega (arith, g .settle .ensures .few, is-taken (c .before) .pendingLength, s .pre .0 .cells)
 
 same-length : tie.Need-same-length
 same-length c =

@@ -14,12 +14,13 @@ returns-2 c =
     let b = c .before .before in
     let x = b .before .before in
     let i = x .before in
-    parts-from _ _ _ (i .into-index .result) (b .into-bit .result) _ _ (i .into-index .ensures) (b .into-bit .ensures) (omega (arith, x .if1 .left))
-    (b .before .shared-slice-known2 .given (i .into-index .result) .fits) (c .before .ones-of .ensures) (c .count-ones .ensures)
+    parts-from _ _ _ _ _ _ _ (i .into-index .ensures) (b .into-bit .ensures) (omega (arith, x .if1 .left))
+    (b .before .shared-slice-known2 .given _ .fits) (c .before .ones-of .ensures) (c .count-ones .ensures)
 
 add-result : tie.Need-add-result
 add-result c =
-    let s = c .before .before .before .before .before .before .before in
+    let k = c .before .before .before .before in
+    let s = k .before .before .before in
     omega (arith, returns-2 c, onward-few (held (s .args .bits .now)) (s .args .split) _ (s .pre .0))
 
 pub count-from-spec : {M : Type 1} → statement M

@@ -22,15 +22,24 @@ push-one-requires c κs =
     let u = c .before .before in
     let k = u .before .before .before in
     let s = k .before .before .before .before in
-    let t = k .loop .inv in
-    (moves-room (t .moves) (s .pre .0), (t .moves .staged, (s .pre .1 .1 .0, s .pre .1 .1 .1, omega (arith, u .into-usize .ensures, s .pre .1 .1 .2 (k .loop .i) (omega arith)))))
+    let t = k .loop .inv in (
+      moves-room (t .moves) (s .pre .0),
+      (
+        t .moves .staged,
+        (
+          s .pre .1 .1 .0,
+          s .pre .1 .1 .1,
+          omega (arith, u .into-usize .ensures, s .pre .1 .1 .2 (k .loop .i) (omega arith)),
+        ),
+      ),
+    )
 
 loop-again : tie.Need-loop-again Inv-loop μ-loop
 loop-again c =
     let p = c .before .before .before .before in
     let u = p .before .before .before in
     let k = u .before .before .before in
-    push-turn (k .loop .inv) (u .into-usize .result) (omega arith) (u .into-usize .ensures) _ _ _ (p .push-one .ensures)
+    push-turn (k .loop .inv) _ (omega arith) (u .into-usize .ensures) _ _ _ (p .push-one .ensures)
 
 same-length : tie.Need-same-length Inv-loop μ-loop
 same-length c = c .before .loop .inv .moves .pendingLength

@@ -6,19 +6,30 @@ use Rattle.pending.proofs.push_one.Tie as tie
 
 returns : tie.Need-returns
 returns c =
-    let s = c .before .before .before .before .before .before .before .before in
-    push-low (s .pre .0) (s .pre .1 .0) _ (s .pre .1 .1 .2) _ _ (c .before .before .before .before .if1 .taken) (c .before .before .toggle .ensures)
+    let t = c .before .before in
+    let i = t .before .before in
+    let s = i .before .before .before .before in
+    push-low (s .pre .0) (s .pre .1 .0) _ (s .pre .1 .1 .2) _ _ (i .if1 .taken) (t .toggle .ensures)
 
 returns-2 : tie.Need-returns-2
 returns-2 c =
-    let s = c .before .before .before .before .before .before .before .before .before .before in
-    push-high (s .pre .0) (s .pre .1 .0) _ (s .pre .1 .1 .2) _ _ _ (c .before .before .before .before .before .before .if1 .left) (c .before .before .before .before .if2 .taken) (c .before .before .store .ensures)
+    let s = c .before .before in
+    let i = s .before .before in
+    let k = i .before .before in
+    let j = k .before .before .before .before in
+    push-high (j .pre .0) (j .pre .1 .0) _ (j .pre .1 .1 .2) _ _ _ (k .if1 .left) (i .if2 .taken)
+    (s .store .ensures)
 
 returns-3 : tie.Need-returns-3
 returns-3 c =
-    let k = c .before .before .before .before .before .before .before .before in
-    let s = k .before .before .before .before .before .before .before .before .before in
-    push-full (s .pre .0) _ (s .pre .1 .1 .2) _ _ (k .before .before .before .before .before .if1 .left) (k .before .before .before .if2 .left) (k .compact .ensures) (c .before .before .store2 .ensures)
+    let s = c .before .before in
+    let k = s .before .before .before in
+    let j = k .before .before .before in
+    let i = j .before .before .before in
+    let m = i .before .before in
+    let n = m .before .before .before .before in
+    push-full (n .pre .0) _ (n .pre .1 .1 .2) _ _ (m .if1 .left) (i .if2 .left) (j .compact .ensures)
+    (s .store2 .ensures)
 
 pub push-one-spec : {M : Type 1} → statement M
 push-one-spec =

@@ -22,7 +22,8 @@ add-up c = omega (arith, c .before .loop .inv .low)
 
 -- one rise
 raised : (c : tie.Joined1 Inv-loop μ-loop)
-    → c .if1 .up ≡ min (64 * c .before .before .before .before .before .args .k) (c .before .before .loop .up + c .before .before .before .before .before .args .level)
+    → c .if1 .up ≡ min (64 * c .before .before .before .before .before .args .k)
+    (c .before .before .loop .up + c .before .before .before .before .before .args .level)
 raised c = ⊎-elim (λ w. omega (arith, w .0 .taken, w .1)) (λ w. omega (arith, w .0 .left, w .1)) (c .if1 .came)
 
 count-from-requires-2 : tie.Need-count-from-requires-2 Inv-loop μ-loop

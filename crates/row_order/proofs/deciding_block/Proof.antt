@@ -8,7 +8,8 @@ use Rattle.row_order.proofs.deciding_block.Tie as tie
 
 abbrev Inv-loop : tie.InvT-loop
 Inv-loop first layout second layout2 mask size k at₀ at =
-    Differing (rowSet layout first) (rowSet layout2 second) mask size (entries layout first) (entries layout2 second) k (at .passed) (at .passed2) (at .end)
+    Differing (rowSet layout first) (rowSet layout2 second) mask size (entries layout first) (entries layout2 second) k
+    (at .passed) (at .passed2) (at .end)
 
 abbrev μ-loop : tie.MeasureT-loop
 μ-loop first layout second layout2 mask size k at₀ at = at .end
@@ -20,9 +21,9 @@ loop-holds c =
 
 masked-block-requires : tie.Need-masked-block-requires Inv-loop μ-loop
 masked-block-requires c κs =
-    let k = c .before in
-    let s = k .before .before .before .before .before .before in
-    let x = differ-step (k .before .before .before .loop .inv) (k .block .given .1) (k .before .before .next-row-xor-chunk .ensures) in
+    let n = c .before .before .before in
+    let s = n .before .before .before .before in
+    let x = differ-step (n .before .loop .inv) (c .before .block .given .1) (n .next-row-xor-chunk .ensures) in
     (s .pre .1 .1, omega (arith, x .ahead .small))
 
 loop-less : tie.Need-loop-less Inv-loop μ-loop
@@ -33,12 +34,16 @@ loop-less c =
 loop-again : tie.Need-loop-again Inv-loop μ-loop
 loop-again c =
     let k = c .before .before .before in
-    differ-turn (k .before .before .before .loop .inv) (k .block .given .1) (k .before .before .next-row-xor-chunk .ensures) (c .before .masked-block .ensures) (c .if1 .left)
+    let n = k .before .before in
+    differ-turn (n .before .loop .inv) (k .block .given .1) (n .next-row-xor-chunk .ensures)
+    (c .before .masked-block .ensures) (c .if1 .left)
 
 returns : tie.Need-returns Inv-loop μ-loop
 returns c =
     let k = c .before .before .before in
-    differ-end (k .before .before .before .loop .inv) (k .block .given .1) (k .before .before .next-row-xor-chunk .ensures) (c .before .masked-block .ensures) (c .if1 .taken)
+    let n = k .before .before in
+    differ-end (n .before .loop .inv) (k .block .given .1) (n .next-row-xor-chunk .ensures)
+    (c .before .masked-block .ensures) (c .if1 .taken)
 
 returns-2 : tie.Need-returns-2 Inv-loop μ-loop
 returns-2 c =

@@ -1,4 +1,5 @@
--- `row_reader::bucket_at` meets its contract: the answer is told by the members still to be given and how many of them come before it. Assumes nothing.
+-- `row_reader::bucket_at` meets its contract: the answer is told by the members still to be given and how many of them come
+-- before it. Assumes nothing.
 use Prim.Native.Nat.{_*_}
 use native.Mathlib.Omega.{arith}
 use borrow.Author.Needs.{needs}

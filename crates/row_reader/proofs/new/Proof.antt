@@ -1,4 +1,5 @@
--- `row_reader::new` meets its contract: a walk of its MIR, by hand. The reader is made of the slice and the two numbers passed, in the result's local.
+-- `row_reader::new` meets its contract: a walk of its MIR, by hand. The reader is made of the slice and the two numbers passed,
+-- in the result's local.
 -- A `&[u8]` is Copy, so what it owns is had twice: once for the row at exit, and once inside the result, beside the facts of the numbers.
 -- Assumes nothing.
 use mathlib.Core.Path.{refl}
@@ -18,7 +19,8 @@ use contract.Monad.{Fun}
 use contract.Running.{givenOf, tables, tablesOf}
 use types.Kit.{Given, ‵, raw, _⊛_, _$_, _∵_, !, qed, by, move, use1, split, fsplit, fjoin, suffices, frame}
 use types.Part.{agg}
-use types.Run.{look, init, forget, stop, from, load, and-then, no-more, assigns, returns, enter, alloc1, alloc0, params1, pass1, pass0, free1, free0}
+use types.Run.{look, init, forget, stop, from, load, and-then, no-more, assigns, returns, enter, alloc1, alloc0, params1, pass1, pass0}
+use types.Run.{free1, free0}
 use sound.WpLaws.{WpFn-mono}
 use denote.RattleType.{owns}
 use denote.Laws.{Is}
@@ -45,7 +47,8 @@ use Rattle.row_reader.proofs.new.Code as code
 abbrev stayed : Stays (new.ended .signature .params) (new.ended .kept)
 stayed = (stay-none-slice (0 ∷ []) tt (plain (λ _. u8)) yes, (stay-none (λ _. u64) yes, (stay-none (λ _. usize) yes, tt)))
 
-module _ {M : Type 1} (𝓤 : URA M) (H : Heap 𝓤) (A : Atoms 𝓤) (W : Given 𝓤 H A) (mem : Memory → SProp 𝓤) (run : Routine → Fun 𝓤) (κ : Lft) (q : Share)
+module _ {M : Type 1} (𝓤 : URA M) (H : Heap 𝓤) (A : Atoms 𝓤) (W : Given 𝓤 H A) (mem : Memory → SProp 𝓤) (run : Routine → Fun 𝓤)
+    (κ : Lft) (q : Share)
     (s : RefT (List ℕ)) (n p : ℕ) (n-fits : n < 2 ^ 64) (p-fits : p < 2 ^ 64) where
   abbrev α : NamedLft
   α = namedLft 1 0 tt (κ, tt)
@@ -69,25 +72,36 @@ module _ {M : Type 1} (𝓤 : URA M) (H : Heap 𝓤) (A : Atoms 𝓤) (W : Given
   exits : ent 𝓤 (onEntry 𝓤 H A new.signature (κ, tt) (q, tt) (s, (n, (p, tt))) at) (Post (T′.lowered made))
   exits =
       qed W ((‵ (flft κ q) ⊛ ‵ ftrue) ∷ ‵ (owns (ShrSlice (named 0) κ u8 ∷ u64 ∷ usize ∷ []) (s, (n, (p, tt))) at) ∷ []) ∵
-      suffices ! _ (ends-at 𝓤 H A new.ended stayed (new.clauses 𝓤 H A mem run) W (((κ, tt), (q, tt), tt, (s, (n, (p, tt))), at), tt) (T′.lowered made) made
+      suffices ! _ (ends-at 𝓤 H A new.ended stayed (new.clauses 𝓤 H A mem run) W
+      (((κ, tt), (q, tt), tt, (s, (n, (p, tt))), at), tt) (T′.lowered made) made
       (tt, (tt, (tt, tt))) (tt, (tt, (tt, tt)))) $
       says ! refl $
-      frame ! $ fsplit ! $ use1 W (‵ Own ⊛ ‵ Own) (shr-slice-copy 𝓤 H A W (named 0) κ u8 .twice s (v ∷ [])) $ split ! $ move ! (0 ∷ 2 ∷ []) $ fjoin ! $ frame ! $
+      frame ! $ fsplit ! $ use1 W (‵ Own ⊛ ‵ Own) (shr-slice-copy 𝓤 H A W (named 0) κ u8 .twice s (v ∷ [])) $ split ! $
+      move ! (0 ∷ 2 ∷ []) $ fjoin ! $ frame ! $
       -- [what the row owns]: what the fields own together, of it and of the numbers' facts, is what the struct owns
-      nothing ! $ owned ! usize (Is usize) (uint-makes 𝓤 H A W w64) p _ (refl, p-fits) $ fjoin ! $ owned ! u64 (Is u64) (uint-makes 𝓤 H A W w64) n _ (refl, n-fits) $ fjoin ! $
+      nothing ! $ owned ! usize (Is usize) (uint-makes 𝓤 H A W w64) p _ (refl, p-fits) $ fjoin ! $
+      owned ! u64 (Is u64) (uint-makes 𝓤 H A W w64) n _ (refl, n-fits) $ fjoin ! $
       move ! (1 ∷ 0 ∷ []) $ fjoin ! $ by ! (own-shut 𝓤 H A W (T.the-type α) (T′.the-laws α) (s, (n, (p, tt))))
 
   module _ (C : Calls 𝓤 H) (Λ : Loops 𝓤 H) where
     walk : Is (ShrSlice (named 0) κ u8) s (v ∷ [])
-        → ent 𝓤 (onEntry 𝓤 H A new.signature (κ, tt) (q, tt) (s, (n, (p, tt))) at) (WpFn 𝓤 H C Λ code.function (v ∷ vint w64 n ∷ vint w64 p ∷ []) Post)
+        → ent 𝓤 (onEntry 𝓤 H A new.signature (κ, tt) (q, tt) (s, (n, (p, tt))) at)
+        (WpFn 𝓤 H C Λ code.function (v ∷ vint w64 n ∷ vint w64 p ∷ []) Post)
     walk is =
-        qed W (raw (onEntry 𝓤 H A new.signature (κ, tt) (q, tt) (s, (n, (p, tt))) at) ∷ []) ∵ enter ! C Λ code.function (v ∷ vint w64 n ∷ vint w64 p ∷ []) _ $
+        qed W (raw (onEntry 𝓤 H A new.signature (κ, tt) (q, tt) (s, (n, (p, tt))) at) ∷ []) ∵ enter ! C Λ code.function
+        (v ∷ vint w64 n ∷ vint w64 p ∷ []) _ $
         alloc1 ! (λ l₀. alloc1 ! (λ l₁. alloc1 ! (λ l₂. alloc1 ! (λ l₃. alloc0 ! $ params1 ! $
         pass1 ! (init ! 4 refl (shr-slice-lawful 𝓤 H A W (named 0) κ u8 .typed s (v ∷ []) is .0)) $
         pass1 ! (init ! 2 refl (tt, record { fits = n-fits })) $ pass1 ! (init ! 0 refl (tt, record { fits = p-fits })) $ pass0 ! $
         assigns ! (agg ! (and-then ! (load ! (from ! (stop !)) (look ! 4 refl)) (and-then ! (load ! (from ! (stop !)) (look ! 2 refl))
         (and-then ! (load ! (from ! (stop !)) (look ! 0 refl)) (no-more !))))) (from ! (stop !))
-        (init ! 6 refl (tt, (shr-slice-lawful 𝓤 H A W (named 0) κ u8 .typed s (v ∷ []) is .0 .1, (record { fits = n-fits }, (record { fits = p-fits }, tt))))) $
+        (init ! 6 refl (
+          tt,
+          (
+            shr-slice-lawful 𝓤 H A W (named 0) κ u8 .typed s (v ∷ []) is .0 .1,
+            (record { fits = n-fits }, (record { fits = p-fits }, tt)),
+          ),
+        )) $
         returns ! (look ! 6 refl) $ forget ! 0 refl $ forget ! 2 refl $ forget ! 4 refl $ forget ! 6 refl $
         move ! (6 ∷ 7 ∷ []) $ free1 ! $ move ! (4 ∷ 5 ∷ []) $ free1 ! $ move ! (2 ∷ 3 ∷ []) $ free1 ! $ free1 ! $ free0 ! $ by ! exits))))
 
@@ -95,11 +109,13 @@ module _ {M : Type 1} (𝓤 : URA M) (H : Heap 𝓤) (A : Atoms 𝓤) (W : Given
   new-walks : (C : Calls 𝓤 H) (Λ : Loops 𝓤 H) → Walks 𝓤 H A new.ended stayed (WpFn 𝓤 H C Λ code.function) (new.clauses 𝓤 H A mem run)
   new-walks C Λ =
       walked 𝓤 H A new.ended stayed (new.clauses 𝓤 H A mem run) (WpFn 𝓤 H C Λ code.function)
-      (λ κs. (slice-vals, (uint-vals w64, (uint-vals w64, tt)))) (λ κs. (shr-slice-tells (named 0) (κs .0) u8, (uint-tells w64, (uint-tells w64, tt))))
+      (λ κs. (slice-vals, (uint-vals w64, (uint-vals w64, tt))))
+      (λ κs. (shr-slice-tells (named 0) (κs .0) u8, (uint-tells w64, (uint-tells w64, tt))))
       (λ κs qs bounds a g are. via 𝓤 _ (fst∗ 𝓤 _ (emp 𝓤))
       (walk 𝓤 H A W mem run (κs .0) (qs .0) (a .0) (a .1 .0) (a .1 .1 .0) (are .1 .0 .1) (are .1 .1 .0 .1) C Λ (are .0)))
 
-new-meets : {M : Type 1} (𝓤 : URA M) (H : Heap 𝓤) (A : Atoms 𝓤) → Given 𝓤 H A → (mem : Memory → SProp 𝓤) (run : Routine → Fun 𝓤) (𝓣 : Tables 𝓤 H)
+new-meets : {M : Type 1} (𝓤 : URA M) (H : Heap 𝓤) (A : Atoms 𝓤) → Given 𝓤 H A
+    → (mem : Memory → SProp 𝓤) (run : Routine → Fun 𝓤) (𝓣 : Tables 𝓤 H)
     → Meets 𝓤 H A new.signature (WpFn 𝓤 H (𝓣 .C) (𝓣 .Λ) code.function) (new.spec 𝓤 H A mem run)
 new-meets 𝓤 H A W mem run 𝓣 =
     walk-meets 𝓤 H A new.ended stayed W (
@@ -109,7 +125,8 @@ new-meets 𝓤 H A W mem run 𝓣 =
         (goes-none 𝓤 H A W 1 (λ _. usize) yes (λ κs x f. refl), tt),
       ),
     )
-    (new.clauses 𝓤 H A mem run) (WpFn 𝓤 H (𝓣 .C) (𝓣 .Λ) code.function) (WpFn-mono 𝓤 H (W .laws) 𝓣 code.function) (new-walks 𝓤 H A W mem run (𝓣 .C) (𝓣 .Λ))
+    (new.clauses 𝓤 H A mem run) (WpFn 𝓤 H (𝓣 .C) (𝓣 .Λ) code.function) (WpFn-mono 𝓤 H (W .laws) 𝓣 code.function)
+    (new-walks 𝓤 H A W mem run (𝓣 .C) (𝓣 .Λ))
 
 pub new-spec : {M : Type 1} → stated.statement M
 unfolding code.routine tablesOf

@@ -6,12 +6,17 @@ use Rattle.rows.proofs.fill.Tie as tie
 
 from-bytes-requires : tie.Need-from-bytes-requires
 from-bytes-requires c κs =
-    let s = c .before .before .before .before .before .before .before .before .before .before .before .before .before .before in
+    let k = c .before .before .before .before .before in
+    let j = k .before .before .before .before .before in
+    let s = j .before .before .before .before in
     fill-asks (s .pre .0) (s .pre .1)
 
 zero-blocks-requires : tie.Need-zero-blocks-requires
 zero-blocks-requires c κs =
-    let s = c .before .before .before .before .before .before .before .before .before .before .before .before .before .before .before .before .before .before in
+    let k = c .before .before .before .before .before in
+    let j = k .before .before .before .before .before in
+    let m = j .before .before .before .before in
+    let s = m .before .before .before .before in
     (blocks-low (s .pre .1), search needs)
 
 returns : tie.Need-returns
@@ -22,7 +27,8 @@ returns c =
     let z = u .before .before .before .before in
     let r = z .before .before .before .before in
     let s = r .before .before .before .before .before in
-    fill-becomes (s .pre .0) (s .pre .1) (r .read-entries .ensures) (z .zero-cells .ensures) (u .into-usize .ensures) (g .from-bytes .ensures) (y .zero-blocks .ensures)
+    fill-becomes (s .pre .0) (s .pre .1) (r .read-entries .ensures) (z .zero-cells .ensures)
+    (u .into-usize .ensures) (g .from-bytes .ensures) (y .zero-blocks .ensures)
     (λ i. c .slice-known7 .given i .fits)
 
 pub fill-spec : {M : Type 1} → statement M

@@ -8,27 +8,23 @@ use Rattle.rows.proofs.open.Tie as tie
 
 count-ones-in-bytes-requires : tie.Need-count-ones-in-bytes-requires
 count-ones-in-bytes-requires c κs =
-    let l = c .before in
-    let s = l .before .before .before .before in
-    fits-room (s .args .config) (s .args .row .now) (l .before .before .row .ensures) (l .layout .given .1)
+    fits-room _ _ (c .before .before .before .row .ensures) (c .before .layout .given .1)
 
 add-t8 : tie.Need-add-t8
 add-t8 c =
     let l = c .before .before .before in
-    let s = l .before .before .before .before in
-    omega (arith, fits-few (s .args .config) (s .args .row .now) (l .before .before .row .ensures) (l .layout .given .1) (c .before .count-ones-in-bytes .ensures))
+    omega (
+      arith,
+      fits-few _ _ (l .before .before .row .ensures) (l .layout .given .1) (c .before .count-ones-in-bytes .ensures),
+    )
 
 returns : tie.Need-returns
 returns c =
     let l = c .before .before .before in
-    let s = l .before .before .before .before in
-    open-size (s .args .config) (s .args .row .now) (l .before .before .row .ensures) (l .layout .given .1) (c .before .count-ones-in-bytes .ensures)
+    open-size _ _ (l .before .before .row .ensures) (l .layout .given .1) (c .before .count-ones-in-bytes .ensures)
 
 returns-2 : tie.Need-returns-2
-returns-2 c =
-    let r = c .before in
-    let s = r .before .before .before .before in
-    open-refused (s .args .config) (s .args .row .now) (r .before .before .row .ensures) (r .r .given .1)
+returns-2 c = open-refused _ _ (c .before .before .before .row .ensures) (c .before .r .given .1)
 
 pub open-spec : {M : Type 1} → statement M
 open-spec =

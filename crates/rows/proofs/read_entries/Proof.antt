@@ -27,16 +27,19 @@ row-entry-requires c κs =
 cast-top : tie.Need-cast-top Inv-loop μ-loop
 cast-top c =
     let l = c .before .before in
-    let k = l .before in
-    let s = k .before .before in
-    omega (arith, entry-small (s .pre .0) (s .args .row .now) (λ i a. k .shared-slice-known .given i .fits) (l .loop .i * s .args .width) (c .row-entry .ensures))
+    let s = l .before .before .before in
+    omega (
+      arith,
+      entry-small (s .pre .0) _ (λ i a. l .before .shared-slice-known .given i .fits)
+          (l .loop .i * s .args .width) (c .row-entry .ensures),
+    )
 
 loop-again : tie.Need-loop-again Inv-loop μ-loop
 loop-again c =
     let k = c .before .before in
     let s = k .before .before .before in
-    fill-turn (c .row-entry .result) (s .pre .2) (c .before .loop-test .taken)
-    (numbers-next (s .args .width) (k .loop .i) 0 (s .args .row .now) (k .loop .i * s .args .width) (c .row-entry .result) (omega arith) (c .row-entry .ensures))
+    fill-turn _ (s .pre .2) (c .before .loop-test .taken)
+    (numbers-next _ (k .loop .i) 0 _ (k .loop .i * s .args .width) _ (omega arith) (c .row-entry .ensures))
     (k .loop .inv)
 
 returns : tie.Need-returns Inv-loop μ-loop

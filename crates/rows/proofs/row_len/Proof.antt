@@ -6,10 +6,10 @@ use Rattle.rows.proofs.row_len.Statement.{statement}
 use Rattle.rows.proofs.row_len.Tie as tie
 
 returns : tie.Need-returns
-returns c = rw (eq-eqb (c .before .args .boundary) 0 (c .if1 .taken)) (omega arith)
+returns c = rw (eq-eqb _ 0 (c .if1 .taken)) (omega arith)
 
 returns-2 : tie.Need-returns-2
-returns-2 c = rw (ne-eqb (c .before .before .args .boundary) 0 (c .before .if1 .left)) (omega (arith, c .num-blocks .ensures))
+returns-2 c = rw (ne-eqb _ 0 (c .before .if1 .left)) (omega (arith, c .num-blocks .ensures))
 
 pub row-len-spec : {M : Type 1} → statement M
 row-len-spec =

@@ -1,4 +1,5 @@
--- `rows::write` meets its contract: the judge's refusal is the call's, and the bytes of a filter that it takes are the set's row. Assumes nothing.
+-- `rows::write` meets its contract: the judge's refusal is the call's, and the bytes of a filter that it takes are the set's row.
+-- Assumes nothing.
 use native.Mathlib.Omega.{arith}
 use denote.Ref.{now}
 use Rattle.sets.specs.Words.{held}
@@ -11,11 +12,10 @@ use Rattle.rows.proofs.write.Tie as tie
 
 -- what the judge told
 told : (k : tie.After-s) →
-    let a = k .before .before .before .before .before .before .args in
+    let l = k .before .before in
+    let a = l .before .before .before .before .args in
     Writable (a .f) (now (a .top)) (now (a .blocks)) (k .s .given .0 .0)
-told k =
-    let a = k .before .before .before .before .before .before .args in
-    writable (a .f) (now (a .top)) (now (a .blocks)) (k .s .given .0 .0) (k .before .before .filter-lent .ensures) (k .s .given .1)
+told k = writable _ _ _ _ (k .before .before .filter-lent .ensures) (k .s .given .1)
 
 row-len-requires : tie.Need-row-len-requires
 row-len-requires c κs =
@@ -23,10 +23,7 @@ row-len-requires c κs =
     (omega (arith, R .short), omega (arith, R .low))
 
 returns : tie.Need-returns
-returns c =
-    let k = c .before .before .before in
-    let a = k .before .before .before .before .before .before .args in
-    write-short (a .f) (now (a .top)) (now (a .blocks)) (now (a .to)) (told k) (c .before .row-len .ensures) (c .if1 .taken)
+returns c = write-short _ _ _ _ (told (c .before .before .before)) (c .before .row-len .ensures) (c .if1 .taken)
 
 write-entries-requires : tie.Need-write-entries-requires
 write-entries-requires c κs =
@@ -37,26 +34,30 @@ write-requires : tie.Need-write-requires
 write-requires c κs =
     let e = c .before .before .before .before .before in
     let l = e .before .before .before in
-    let R = told (l .before .before) in
-    let a = l .before .before .before .before .before .before .before .before .args in
-    ((R .low, R .blocksIn), (R .clear, omega (arith, e .write-entries .kept .0, l .row-len .ensures, length-bitPart (a .f .boundary) (held (now (a .blocks))))))
+    let k = l .before .before in
+    let j = k .before .before .before in
+    let a = j .before .before .before .args in
+    let R = told k in (
+      (R .low, R .blocksIn),
+      (
+        R .clear,
+        omega (arith, e .write-entries .kept .0, l .row-len .ensures, length-bitPart (a .f .boundary) (held (now (a .blocks)))),
+      ),
+    )
 
 returns-2 : tie.Need-returns-2
 returns-2 c =
     let w = c .before .before in
-    let e = w .before .before .before .before .before .before in
-    let l = e .before .before .before in
-    let k = l .before .before in
-    let a = k .before .before .before .before .before .before .args in
-    write-done (a .f) (now (a .top)) (now (a .blocks)) (now (a .to)) (told k) (l .row-len .ensures) (e .before .before .if1 .left)
+    let k = w .before .before .before in
+    let e = k .before .before .before in
+    let i = e .before .before in
+    write-done _ _ _ _ (told (i .before .before .before)) (i .before .row-len .ensures) (i .if1 .left)
     (e .write-entries .ensures) (w .write .ensures .0) (w .write .ensures .1)
 
 returns-3 : tie.Need-returns-3
 returns-3 c =
-    let k = c .before .before .before in
-    let a = k .before .before .before .before .args in
-    write-refused (a .f) (now (a .top)) (now (a .blocks)) (now (a .to))
-    (one-not (a .f) (now (a .top)) (now (a .blocks)) (c .before .r .given .0 .0) (k .filter-lent .ensures) (c .before .r .given .1))
+    write-refused _ _ _ _
+    (one-not _ _ _ _ (c .before .before .before .filter-lent .ensures) (c .before .r .given .1))
 
 pub write-spec : {M : Type 1} → statement M
 write-spec =

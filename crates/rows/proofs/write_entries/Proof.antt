@@ -1,7 +1,6 @@
 -- `rows::write_entries` meets its contract: i entries are written. Assumes nothing.
 use Prim.Native.Nat.{_-_, _*_}
 use native.Mathlib.Omega.{arith}
-use denote.Ref.{now}
 use Rattle.bitchunks.proofs.Rows.{entry-room}
 use Rattle.unaligned.proofs.Runs.{Written, written-start, written-turn, written-end}
 use Rattle.rows.proofs.Entries.{entry-below}
@@ -22,15 +21,17 @@ write-entry-requires c κs =
     let k = c .before .before .before in
     let s = k .before .before .before in (
       s .pre .0 .0,
-      entry-room (s .args .width) (c .before .before .loop-test .taken) (omega arith),
-      entry-below (now (s .args .top)) (s .pre .1 .0) (c .before .before .loop-test .taken) (s .pre .1 .1),
+      entry-room _ (c .before .before .loop-test .taken) (omega arith),
+      entry-below _ (s .pre .1 .0) (c .before .before .loop-test .taken) (s .pre .1 .1),
     )
 
 loop-again : tie.Need-loop-again Inv-loop μ-loop
 loop-again c =
-    let k = c .before .before .before .before .before .before in
+    let w = c .before .before in
+    let k = w .before .before .before .before in
     let s = k .before .before .before in
-    written-turn _ (k .loop .i * s .args .width) (s .pre .1 .0) (omega arith) (omega arith) (c .before .before .write-entry .ensures) (k .loop .inv)
+    written-turn _ (k .loop .i * s .args .width) (s .pre .1 .0) (omega arith) (omega arith)
+    (w .write-entry .ensures) (k .loop .inv)
 
 returns : tie.Need-returns Inv-loop μ-loop
 returns c = written-end (c .loop-test .left) (c .before .loop .inv)

@@ -34,7 +34,7 @@ mul-write-u16 c = omega (arith, c .before .before .before .good .0, in-two c)
 cast-write-u16 : tie.Need-cast-write-u16
 cast-write-u16 c =
     let s = c .before .before .before in
-    omega (arith, entry-fits _ 2 (c .before .if1 .taken) (s .args .bucket) (s .pre .2))
+    omega (arith, entry-fits _ 2 (c .before .if1 .taken) _ (s .pre .2))
 
 write-u16-requires : tie.Need-write-u16-requires
 write-u16-requires c κs = in-two c
@@ -42,8 +42,7 @@ write-u16-requires c κs = in-two c
 returns : tie.Need-returns
 returns c =
     let k = c .before .before in
-    let a = k .before .before .before .before .args in
-    k .write-u16 .ensures ∙ entry-written _ 2 (k .before .before .if1 .taken) (a .place) (now (a .to)) (a .bucket)
+    k .write-u16 .ensures ∙ entry-written _ 2 (k .before .before .if1 .taken) _ _ _
 
 mul-write-u32 : tie.Need-mul-write-u32
 mul-write-u32 c = omega (arith, c .before .before .before .good .0, in-four c)
@@ -54,8 +53,7 @@ write-u32-requires c κs = in-four c
 returns-2 : tie.Need-returns-2
 returns-2 c =
     let k = c .before .before in
-    let a = k .before .before .before .before .args in
-    k .write-u32 .ensures ∙ entry-written _ 4 (four (k .before)) (a .place) (now (a .to)) (a .bucket)
+    k .write-u32 .ensures ∙ entry-written _ 4 (four (k .before)) _ _ _
 
 pub write-entry-spec : {M : Type 1} → statement M
 write-entry-spec =

@@ -11,10 +11,12 @@ use Rattle.unaligned.proofs.write_u32.Tie as tie
 
 returns : tie.Need-returns
 returns c =
-    let s = c .before .before .before .before .before .before .before .before .before in
-    c .before .before .write-u162 .ensures
-    ∙ ap (λ (l : List ℕ). sets l (s .args .at + 2) (bytes 2 (s .args .v / 2 ^ (8 * 2)))) (c .before .before .before .before .before .before .write-u16 .ensures)
-    ∙ sets-split 2 2 (s .args .v) (s .args .at) (s .args .to .now)
+    let w = c .before .before in
+    let u = w .before .before .before .before in
+    let s = u .before .before .before .args in
+    w .write-u162 .ensures
+    ∙ ap (λ (l : List ℕ). sets l (s .at + 2) (bytes 2 (s .v / 2 ^ (8 * 2)))) (u .write-u16 .ensures)
+    ∙ sets-split 2 2 (s .v) (s .at) (s .to .now)
 
 pub write-u32-spec : {M : Type 1} → statement M
 write-u32-spec =

@@ -11,10 +11,12 @@ use Rattle.unaligned.proofs.write_u64.Tie as tie
 
 returns : tie.Need-returns
 returns c =
-    let s = c .before .before .before .before .before .before .before .before .before in
-    c .before .before .write-u322 .ensures
-    ∙ ap (λ (l : List ℕ). sets l (s .args .at + 4) (bytes 4 (s .args .v / 2 ^ (8 * 4)))) (c .before .before .before .before .before .before .write-u32 .ensures)
-    ∙ sets-split 4 4 (s .args .v) (s .args .at) (s .args .to .now)
+    let w = c .before .before in
+    let u = w .before .before .before .before in
+    let s = u .before .before .before .args in
+    w .write-u322 .ensures
+    ∙ ap (λ (l : List ℕ). sets l (s .at + 4) (bytes 4 (s .v / 2 ^ (8 * 4)))) (u .write-u32 .ensures)
+    ∙ sets-split 4 4 (s .v) (s .at) (s .to .now)
 
 pub write-u64-spec : {M : Type 1} → statement M
 write-u64-spec =
