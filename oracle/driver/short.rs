@@ -5,6 +5,7 @@
 use crate::cases::{Call, Case};
 use crate::inputs::{flip, Plan, Step};
 use crate::ours::Sizes;
+use crate::plain::entries;
 use crate::run::{Ran, Run};
 
 pub fn run(run: &mut Run) -> Ran {
@@ -121,20 +122,16 @@ fn shortest_rows(run: &mut Run) -> Ran {
     (0..=u16::MAX).try_for_each(|entry| run.ask_row(0, &entry.to_le_bytes()))
 }
 
-fn bytes(sizes: &Sizes, entries: &[u32]) -> Vec<u8> {
-    entries.iter().flat_map(|entry| entry.to_le_bytes()[..sizes.entry_bytes].to_vec()).collect()
-}
-
 /// All rows of up to three entries out of critical ones, and each without its last byte.
 fn rows_of_entries(run: &mut Run, side: usize, sizes: &Sizes) -> Ran {
     let (buckets, slot) = (sizes.buckets as u32, 1 << sizes.position_bits);
-    let entries = [0, 1, 2, 63, 64, 65, buckets - 1, buckets, slot - 1, slot, u32::MAX];
+    let critical = [0, 1, 2, 63, 64, 65, buckets - 1, buckets, slot - 1, slot, u32::MAX];
     let mut rows = vec![vec![]];
     for _ in 0..3 {
-        let longer = |row: &Vec<u32>| entries.map(|entry| [&row[..], &[entry]].concat());
+        let longer = |row: &Vec<u32>| critical.map(|entry| [&row[..], &[entry]].concat());
         rows = rows.iter().flat_map(longer).collect();
         for row in &rows {
-            let row = bytes(sizes, row);
+            let row = entries(sizes, row);
             run.ask_row(side, &row)?;
             run.ask_row(side, &row[..row.len() - 1])?;
         }
@@ -147,7 +144,7 @@ fn full_rows(run: &mut Run, side: usize, sizes: &Sizes) -> Ran {
     (0..100).try_for_each(|length| run.ask_row(side, &vec![0; length]))?;
     for low in (0..67).chain([127, 128, 129]) {
         let list: Vec<u32> = (low..low + sizes.top as u32).rev().collect();
-        let list = bytes(sizes, &list);
+        let list = entries(sizes, &list);
         (0..20).try_for_each(|more| run.ask_row(side, &[&list[..], &vec![0; more]].concat()))?;
         for spare in (0..66).chain([255]) {
             for blocks in 1..4 {

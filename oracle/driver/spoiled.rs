@@ -1,7 +1,7 @@
 //! Rows that may be spoiled, held against the Rust: what we take it must read as the same, and what we
 //! refuse must be of a kind (see kinds.rs) and be met by the Rust as that kind says.
 
-use crate::cases::{hex, holds, same, Compared, Difference};
+use crate::cases::{hex, holds_filter, same, Compared, Difference};
 use crate::caught::caught;
 use crate::kinds::{faults, Kind, Shown, KINDS, QUESTIONS};
 use crate::ours::{self, Lent};
@@ -153,8 +153,7 @@ fn borrowed(shown: &Shown) -> Result<Option<Made>, Difference> {
 fn taken(shown: &Shown, target: &Lent) -> Compared {
     let (config, set) = (shown.sizes.config, shown.set());
     let Some(made) = borrowed(shown)? else { return fault("taken", "not read") };
-    let record = [config.into(), made.parts.list.len() as u64, made.parts.boundary as u64];
-    holds(target, Ok(()), record, &made.parts)?;
+    holds_filter(config, target, Ok(()), &made.parts)?;
     same(ours::open(config, shown.row), set.len())?;
     same(Ok(set), probe::ones_of(config, Given::Row(shown.row)))
 }
