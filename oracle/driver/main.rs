@@ -53,7 +53,8 @@ fn run_cases(cases: u64, seed: u64) -> bool {
     run.table.print();
     run.print_lists();
     run.spoiled.print();
-    println!("answers that a kind names and that were not seen: {:?}", run.spoiled.unseen());
+    let unseen = run.spoiled.unseen();
+    println!("kinds of rows, and answers that they name, that were not seen: {unseen:?}");
     let unlisted = known::not_as_listed();
     println!("differences that are not as listed: {unlisted:?}");
     let balanced = run.table.is_balanced() && run.met_full();
@@ -68,5 +69,5 @@ fn run_cases(cases: u64, seed: u64) -> bool {
         }
         Err(Failure(ref text)) => println!("{build}: {text}"),
     }
-    ran.is_ok() && unlisted.is_empty() && balanced
+    ran.is_ok() && unseen.is_empty() && unlisted.is_empty() && balanced
 }

@@ -42,10 +42,13 @@ impl Spoiled {
         }
     }
 
-    /// The answers that kinds name and that were not seen.
+    /// The kinds that no row has alone, and the answers that kinds name and that were not seen.
     pub fn unseen(&self) -> Vec<String> {
         let mut unseen = vec![];
         for (kind, seen) in self.seen.iter().enumerate() {
+            if seen.alone == 0 {
+                unseen.push(KINDS[kind].name.into());
+            }
             for (question, words) in seen.words.iter().enumerate() {
                 let missing = declared(kind, question).chars().filter(|word| !words.contains(word));
                 unseen.extend(
