@@ -33,7 +33,7 @@ impl Followed {
         );
     }
 
-    /// The pending area was met full at least once in ten lists.
+    /// Pending areas were met full often enough.
     pub fn met_full(&self) -> bool {
         10 * self.moved >= self.lists
     }

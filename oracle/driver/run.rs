@@ -63,7 +63,6 @@ impl Run {
         self.sides.iter().for_each(|side| side.followed.print());
     }
 
-    /// The lists of each configuration met full pending areas often enough.
     pub fn met_full(&self) -> bool {
         self.sides.iter().all(|side| side.followed.met_full())
     }
