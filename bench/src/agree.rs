@@ -1,9 +1,8 @@
 //! Both sides answer alike: a time tells nothing of a call that does something else.
 
 use crate::ffi;
-use crate::many::{new_builder, push_each};
 use crate::ours::{self, Builder, Filter, Sizes};
-use crate::sets::{reading, toggle_each, written, Config, Set};
+use crate::sets::{new_builder, push_each, reading, toggle_each, written, Config, Set};
 use geo_filters::held::{self, GeoDiffCount};
 use std::cmp::Ordering;
 

@@ -3,7 +3,7 @@
 use crate::clock::in_a_row;
 use crate::loads::{items, Load, MILLION};
 use crate::ours::{self, Builder, Filter, Sizes};
-use crate::sets::{reading, Config, Set};
+use crate::sets::{new_builder, push_each, reading, Config, Set};
 use crate::table::{Areas, Line, Table, Wanted};
 use crate::{agree, many};
 use geo_filters::held::{self, GeoDiffCount};
@@ -281,8 +281,8 @@ impl<C: Config> Calls<C> {
     fn pushing_one(&self) {
         let mut ours = Builder::new(self.sizes);
         ours.push(&self.a.items);
-        let mut rust = many::new_builder::<C>();
-        many::push_each(&mut rust, &self.a.items);
+        let mut rust = new_builder::<C>();
+        push_each(&mut rust, &self.a.items);
         let mut judged = ours.clone();
         let (mut list, mut same_list) = (there_and_back::<C>(), there_and_back::<C>());
         self.table.line(

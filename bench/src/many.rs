@@ -3,9 +3,9 @@
 use crate::agree;
 use crate::clock::{in_a_row, on_ready};
 use crate::ours::{Builder, Filter, Sizes};
-use crate::sets::{toggle_each, Config, Set};
+use crate::sets::{new_builder, push_each, toggle_each, Config, Set};
 use crate::table::{Areas, Line, Table, Wanted};
-use geo_filters::held::{Direct, GeoDiffCountBuilder};
+use geo_filters::held::GeoDiffCountBuilder;
 
 /// Toggling, pushing and building, from the empty set. The line is made of the call and of what is
 /// wanted.
@@ -82,15 +82,4 @@ fn build<C: Config>(table: &Table, line: Line, sizes: Sizes, list: &[u32]) {
 
 fn ending_outside(list: &[u32], sizes: Sizes) -> Vec<u32> {
     [list, &[sizes.outside()]].concat()
-}
-
-/// The Rust's builder, from the split 0.
-pub fn new_builder<C: Config>() -> GeoDiffCountBuilder<Direct<C>> {
-    GeoDiffCountBuilder::with_capacity(Direct(C::default()), 0)
-}
-
-pub fn push_each<C: Config>(builder: &mut GeoDiffCountBuilder<Direct<C>>, list: &[u32]) {
-    for &bucket in list {
-        builder.push_hash(bucket.into());
-    }
 }

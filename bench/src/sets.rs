@@ -1,7 +1,7 @@
 //! Sets that both sides hold: the port in its areas, the Rust in its own type, and the row.
 
 use crate::ours::{Filter, Sizes};
-use geo_filters::held::{self, GeoConfig, GeoDiffCount};
+use geo_filters::held::{self, Direct, GeoConfig, GeoDiffCount, GeoDiffCountBuilder};
 use geo_filters::Diff;
 
 pub trait Config: GeoConfig<Diff> + Default + 'static {}
@@ -37,6 +37,17 @@ pub fn toggle_each<C: Config>(filter: &mut GeoDiffCount<'_, C>, items: &[u32]) {
     items
         .iter()
         .for_each(|&bucket| held::toggle(filter, bucket));
+}
+
+/// The Rust's builder, from the split 0.
+pub fn new_builder<C: Config>() -> GeoDiffCountBuilder<Direct<C>> {
+    GeoDiffCountBuilder::with_capacity(Direct(C::default()), 0)
+}
+
+pub fn push_each<C: Config>(builder: &mut GeoDiffCountBuilder<Direct<C>>, list: &[u32]) {
+    for &bucket in list {
+        builder.push_hash(bucket.into());
+    }
 }
 
 /// The Rust's filter of a row, which borrows the row.

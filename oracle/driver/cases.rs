@@ -30,6 +30,7 @@ pub enum Call {
     GreaterRow,
     StepAt,
     ReaderStep,
+    Ways,
     Spoiled,
 }
 
@@ -58,6 +59,7 @@ impl Call {
             Call::GreaterRow => "greater_row: cmp_masked",
             Call::StepAt => "step_at: iter_ones",
             Call::ReaderStep => "row_reader_step: iter_ones",
+            Call::Ways => "toggled, built, grouped",
             Call::Spoiled => "read: spoiled rows",
         }
     }
@@ -137,14 +139,19 @@ impl<'a> Case<'a> {
 }
 
 /// The buffer that rows are written to, and what it held before.
-struct Buffer {
+pub struct Buffer {
     bytes: Vec<u8>,
     before: Vec<u8>,
 }
 
 impl Buffer {
+    pub fn new(sizes: &Sizes) -> Self {
+        let bytes = vec![0xa5; sizes.longest + 16];
+        Self { before: bytes.clone(), bytes }
+    }
+
     /// The filter is written as this row, and the bytes behind it stay.
-    fn written(&mut self, filter: &Lent, row: &[u8], lent: usize) -> Compared {
+    pub fn written(&mut self, filter: &Lent, row: &[u8], lent: usize) -> Compared {
         let length = filter.write(&mut self.bytes[..lent]);
         self.before[..row.len()].copy_from_slice(row);
         if length == Ok(row.len()) && self.bytes == self.before {
@@ -178,10 +185,8 @@ pub struct Compare {
 
 impl Compare {
     pub fn new(sizes: Sizes) -> Self {
-        let bytes = vec![0xa5; sizes.longest + 16];
-        let buffer = Buffer { before: bytes.clone(), bytes };
         let (target, builder) = (Lent::filter(&sizes, 1), Lent::builder(&sizes, 1));
-        Self { sizes, target, builder, buffer }
+        Self { sizes, target, builder, buffer: Buffer::new(&sizes) }
     }
 
     pub fn compare(&mut self, case: &Case) -> Compared {
@@ -234,8 +239,7 @@ impl Compare {
     }
 
     fn holds(&self, filter: &Lent, answer: Answer<()>, parts: &Parts) -> Compared {
-        let record = [self.sizes.config.into(), parts.list.len() as u64, parts.boundary as u64];
-        holds(filter, answer, record, parts)
+        holds_filter(self.sizes.config, filter, answer, parts)
     }
 
     /// Into a buffer that is just long enough, and into a longer one.
@@ -290,10 +294,7 @@ impl Compare {
         let before = self.builder.clone();
         let answer = answer.and_then(|()| self.builder.builder_finish(&mut self.target));
         self.holds(&self.target, answer, &made.parts)?;
-        if self.builder != before {
-            let (ours, theirs) = (self.builder.shown(), format!("as before: {}", before.shown()));
-            return Err(Difference { ours, theirs });
-        }
+        stays(&self.builder, &before)?;
         self.buffer.written(&self.target, &made.row, made.row.len())
     }
 
@@ -307,7 +308,7 @@ impl Compare {
 }
 
 /// The call was answered, and what was lent holds the record and the Rust's parts.
-pub fn holds(lent: &Lent, answer: Answer<()>, record: [u64; FILTER], parts: &Parts) -> Compared {
+fn holds(lent: &Lent, answer: Answer<()>, record: [u64; FILTER], parts: &Parts) -> Compared {
     if answer.is_ok() && lent.holds(record, &parts.list, &parts.blocks) {
         return Ok(());
     }
@@ -315,8 +316,22 @@ pub fn holds(lent: &Lent, answer: Answer<()>, record: [u64; FILTER], parts: &Par
     Err(Difference { ours, theirs: shown(record, &parts.list, &parts.blocks) })
 }
 
+/// The same, of a filter.
+pub fn holds_filter(config: u32, lent: &Lent, answer: Answer<()>, parts: &Parts) -> Compared {
+    let record = [config.into(), parts.list.len() as u64, parts.boundary as u64];
+    holds(lent, answer, record, parts)
+}
+
+/// What was lent is as it should have stayed.
+pub fn stays(lent: &Lent, before: &Lent) -> Compared {
+    if lent == before {
+        return Ok(());
+    }
+    Err(Difference { ours: lent.shown(), theirs: format!("as before: {}", before.shown()) })
+}
+
 /// The plan's steps for the Rust, which pushes one by one.
-fn pushes(plan: &Plan) -> Vec<probe::Step<'_>> {
+pub fn pushes(plan: &Plan) -> Vec<probe::Step<'_>> {
     steps(plan, |list| probe::Step::Push(list))
 }
 

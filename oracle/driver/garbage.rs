@@ -4,6 +4,8 @@ mod arguments;
 mod calls;
 mod judge;
 mod lent;
+mod numbers;
+mod sizes;
 mod sound;
 mod spoil;
 mod spoil_areas;
@@ -12,12 +14,12 @@ mod tally;
 mod wild;
 
 use crate::random::Random;
-use arguments::{Arguments, Given};
-use calls::{Call, Thing, BUFFER, CALLS};
+use arguments::{Arguments, Given, Thing};
+use calls::{Allowed, Call, BUFFER, CALLS};
 use judge::{judged, sizes};
 use lent::Kind;
 use sound::Sound;
-use spoil::{spoil, Allowed};
+use spoil::spoil;
 use tally::Tally;
 
 /// Throws so many calls at each, and writes a table of the answers. Every answer must be the one that 01 demands, and

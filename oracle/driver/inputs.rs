@@ -18,6 +18,14 @@ pub enum Step {
 }
 
 impl Plan {
+    /// What is pushed.
+    pub fn lists(&mut self) -> impl Iterator<Item = &mut Vec<u32>> {
+        self.steps.iter_mut().filter_map(|step| match step {
+            Step::Push(list) => Some(list),
+            Step::Raise(_) => None,
+        })
+    }
+
     /// The pending area is never met full, so that the builder's inside is fixed.
     pub fn fixes_inside(&self, sizes: &Sizes) -> bool {
         let (mut split, mut pending) = (self.split, 0);

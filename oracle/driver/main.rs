@@ -8,11 +8,13 @@ mod caught;
 #[path = "../../bindings/rust/src/ffi.rs"]
 #[allow(dead_code)] // some of its constants are for the crate alone
 mod ffi;
+mod followed;
 mod garbage;
 mod inputs;
 mod kinds;
 mod known;
 mod ours;
+mod plain;
 mod random;
 mod run;
 mod short;
@@ -20,6 +22,7 @@ mod shrink;
 mod spoil;
 mod spoiled;
 mod table;
+mod ways;
 
 use run::{Failure, Run};
 use std::process::exit;
@@ -43,16 +46,19 @@ fn usage() -> ! {
     exit(2)
 }
 
-/// Runs what is short whole, then random cases until there are enough.
+/// Runs what is short whole, then the lists that every run has, then random cases until there are enough.
 fn run_cases(cases: u64, seed: u64) -> bool {
     let (begin, mut run) = (Instant::now(), Run::new(seed));
-    let ran = short::run(&mut run).and_then(|()| run.until(cases));
+    let ran = short::run(&mut run).and_then(|()| run.lists()).and_then(|()| run.until(cases));
     run.table.print();
+    run.print_lists();
     run.spoiled.print();
-    println!("answers that a kind names and that were not seen: {:?}", run.spoiled.unseen());
+    let unseen = run.spoiled.unseen();
+    println!("kinds of rows, and answers that they name, that were not seen: {unseen:?}");
     let unlisted = known::not_as_listed();
     println!("differences that are not as listed: {unlisted:?}");
-    if !run.table.is_balanced() {
+    let balanced = run.table.is_balanced() && run.met_full();
+    if !balanced {
         println!("the cases are not balanced");
     }
     let build = if cfg!(debug_assertions) { "debug" } else { "release" };
@@ -63,5 +69,5 @@ fn run_cases(cases: u64, seed: u64) -> bool {
         }
         Err(Failure(ref text)) => println!("{build}: {text}"),
     }
-    ran.is_ok() && unlisted.is_empty() && run.table.is_balanced()
+    ran.is_ok() && unseen.is_empty() && unlisted.is_empty() && balanced
 }

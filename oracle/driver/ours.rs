@@ -77,20 +77,27 @@ impl<T: Cell> Area<T> {
     }
 
     fn holds(&self, used: &[T]) -> bool {
-        let all = |cells: &[T], value: T| cells.iter().fold(true, |all, &cell| all & (cell == value));
         used.len() <= self.length
             && self.cells[..used.len()] == *used
             && all(&self.cells[used.len()..self.length], T::default())
-            && all(&self.cells[self.length..], T::GUARD)
+            && self.guarded()
+    }
+
+    fn guarded(&self) -> bool {
+        all(&self.cells[self.length..], T::GUARD)
     }
 
     fn untouched(&self) -> bool {
-        self.cells.iter().fold(true, |all, &cell| all & (cell == T::GUARD))
+        all(&self.cells, T::GUARD)
     }
 
     fn copy_from(&mut self, other: &Self) {
         self.cells[..self.length].copy_from_slice(&other.cells[..self.length]);
     }
+}
+
+fn all<T: Cell>(cells: &[T], value: T) -> bool {
+    cells.iter().fold(true, |all, &cell| all & (cell == value))
 }
 
 /// A filter, with the areas of the top list and of the blocks; or a builder, with those of the
@@ -129,6 +136,11 @@ impl Lent {
     /// Record and areas are these, with zeroes behind, and the guards stand.
     pub fn holds(&self, record: [u64; FILTER], list: &[u32], blocks: &[u64]) -> bool {
         self.record == record && self.list.holds(list) && self.blocks.holds(blocks)
+    }
+
+    /// The guards stand.
+    pub fn guarded(&self) -> bool {
+        self.list.guarded() && self.blocks.guarded()
     }
 
     pub fn fill_with_guards(&mut self) {

@@ -2,14 +2,19 @@
 
 use crate::cases::{hex, Call, Case, Compare, Difference, Subject};
 use crate::caught::caught;
+use crate::followed::Followed;
 use crate::inputs::Inputs;
 use crate::kinds::Shown;
 use crate::ours::{sizes_of, Lent, Sizes};
-use crate::shrink::{parts, shrunk, Reproduction};
+use crate::shrink::{difference, parts, smallest, Reproduction};
 use crate::spoiled::Spoiled;
 use crate::table::Table;
+use crate::ways::Ways;
 
 const CONFIGS: [u32; 3] = [7, 10, 13];
+
+/// Lists for each configuration, at least.
+const LISTS: usize = 1000;
 
 /// A difference, told with what shows it.
 pub struct Failure(pub String);
@@ -22,6 +27,7 @@ struct Side {
     inputs: Inputs,
     /// Where spoiled rows are read to.
     target: Lent,
+    followed: Followed,
 }
 
 pub struct Run {
@@ -36,13 +42,29 @@ impl Run {
         let side = |config| {
             let sizes = sizes_of(config).expect("a configuration");
             let (compare, inputs) = (Compare::new(sizes), Inputs::new(sizes, seed));
-            Side { compare, inputs, target: Lent::filter(&sizes, 2) }
+            Side { compare, inputs, target: Lent::filter(&sizes, 2), followed: Followed::new(sizes) }
         };
         Self { seed, sides: CONFIGS.map(side), table: Table::default(), spoiled: Spoiled::default() }
     }
 
     pub fn sizes(&self, side: usize) -> Sizes {
         self.sides[side].compare.sizes
+    }
+
+    /// The lists that every run has.
+    pub fn lists(&mut self) -> Ran {
+        for side in 0..3 {
+            (0..LISTS).try_for_each(|_| self.ask_list(side))?;
+        }
+        Ok(())
+    }
+
+    pub fn print_lists(&self) {
+        self.sides.iter().for_each(|side| side.followed.print());
+    }
+
+    pub fn met_full(&self) -> bool {
+        self.sides.iter().all(|side| side.followed.met_full())
     }
 
     /// Goes on until there are this many cases, always in the configuration that has the fewest.
@@ -88,11 +110,9 @@ impl Run {
     /// One row, spoiled or not.
     pub fn ask_row(&mut self, side: usize, row: &[u8]) -> Ran {
         let Side { compare: Compare { sizes, .. }, target, .. } = &mut self.sides[side];
-        let mut difference = |row: &[u8]| {
-            let compared = caught(|| self.spoiled.compare(&Shown::new(sizes, row), target));
-            compared.unwrap_or_else(|panic| Err(Difference::panics(panic))).err()
-        };
-        if difference(row).is_none() {
+        let mut differs =
+            |row: &Vec<u8>| difference(|| self.spoiled.compare(&Shown::new(sizes, row), target));
+        if differs(&row.to_vec()).is_none() {
             let shown = Shown::new(sizes, row);
             self.table.count(sizes, Call::Spoiled, shown.count(), shown.boundary);
             return Ok(());
@@ -101,9 +121,23 @@ impl Run {
             let row = row.clone();
             parts(row.len()).map(move |part| [&row[..part.start], &row[part.end..]].concat())
         };
-        let smallest = shrunk(row.to_vec(), shorter, |row| difference(row).is_some());
-        let difference = difference(&smallest);
+        let (smallest, difference) = smallest(row.to_vec(), shorter, differs);
         Err(self.failure(side, Call::Spoiled, &hex(&smallest), difference))
+    }
+
+    /// A new list, in every way.
+    fn ask_list(&mut self, side: usize) -> Ran {
+        let Side { inputs, followed, .. } = &mut self.sides[side];
+        let ways = inputs.ways(followed.lists);
+        let mut differs = |ways: &Ways| difference(|| followed.compare(ways));
+        if differs(&ways).is_none() {
+            let (sizes, set) = (self.sizes(side), ways.set());
+            let boundary = set.get(sizes.top - 1).map_or(0, |&last| last as usize);
+            self.table.count(&sizes, Call::Ways, set.len(), boundary);
+            return Ok(());
+        }
+        let (smallest, difference) = smallest(ways, Ways::smaller, differs);
+        Err(self.failure(side, Call::Ways, &format!("{smallest:?}"), difference))
     }
 
     fn failure(&self, side: usize, call: Call, inputs: &str, difference: Option<Difference>) -> Failure {
@@ -136,6 +170,9 @@ impl Run {
         for _ in 0..2 {
             let row = self.sides[side].inputs.spoiled(&a.made.row);
             self.ask_row(side, &row)?;
+        }
+        if self.sides[side].inputs.random.once_in(4) {
+            self.ask_list(side)?;
         }
         // no call changed what it only reads
         self.check(side, ab)?;

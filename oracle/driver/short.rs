@@ -1,10 +1,12 @@
 //! What is short enough to be run through whole: all subsets of critical buckets, all pairs of some,
-//! all short lists over them, all rows of up to two bytes, all rows of up to three critical entries,
-//! and full lists with every spare byte, few blocks and single bits.
+//! all short lists over them, all rows of up to two bytes, all rows of few critical entries, and full
+//! lists with every spare byte, few blocks and single bits, and with their last entries in any order. The
+//! rows meet every kind, and every answer that a kind names.
 
 use crate::cases::{Call, Case};
 use crate::inputs::{flip, Plan, Step};
 use crate::ours::Sizes;
+use crate::plain::{entries, made};
 use crate::run::{Ran, Run};
 
 pub fn run(run: &mut Run) -> Ran {
@@ -17,6 +19,7 @@ pub fn run(run: &mut Run) -> Ran {
         lists(run, side, &sizes)?;
         rows_of_entries(run, side, &sizes)?;
         full_rows(run, side, &sizes)?;
+        spread_rows(run, side, &sizes)?;
     }
     shortest_rows(run)
 }
@@ -82,16 +85,17 @@ fn pairs(run: &mut Run, side: usize, sizes: &Sizes) -> Ran {
     Ok(())
 }
 
-/// All lists of up to two of the critical buckets, and of three of the fewer, with repeats.
+/// All lists of this length over these numbers, with repeats.
+fn lists_of(length: usize, over: &[u32]) -> Vec<Vec<u32>> {
+    (0..length).fold(vec![vec![]], |lists, _| {
+        lists.iter().flat_map(|list| over.iter().map(|&next| [&list[..], &[next]].concat())).collect()
+    })
+}
+
+/// All lists of up to two of the critical buckets, and of three of the fewer.
 fn short_lists(sizes: &Sizes) -> Vec<Vec<u32>> {
-    let longer = |lists: &[Vec<u32>], buckets: &[u32]| -> Vec<Vec<u32>> {
-        lists.iter().flat_map(|list| buckets.iter().map(|&bucket| [&list[..], &[bucket]].concat())).collect()
-    };
     let (all, fewer) = (critical(sizes), fewer_critical(sizes));
-    let one = longer(&[vec![]], &all);
-    let two = longer(&one, &all);
-    let three = longer(&longer(&longer(&[vec![]], &fewer), &fewer), &fewer);
-    [vec![vec![]], one, two, three].concat()
+    [lists_of(0, &all), lists_of(1, &all), lists_of(2, &all), lists_of(3, &fewer)].concat()
 }
 
 /// Each short list toggled, and pushed behind others with the split raised in between.
@@ -121,23 +125,16 @@ fn shortest_rows(run: &mut Run) -> Ran {
     (0..=u16::MAX).try_for_each(|entry| run.ask_row(0, &entry.to_le_bytes()))
 }
 
-fn bytes(sizes: &Sizes, entries: &[u32]) -> Vec<u8> {
-    entries.iter().flat_map(|entry| entry.to_le_bytes()[..sizes.entry_bytes].to_vec()).collect()
-}
-
-/// All rows of up to three entries out of critical ones, and each without its last byte.
+/// All rows of up to three entries out of critical ones, and of four out of fewer; and each without its
+/// last byte.
 fn rows_of_entries(run: &mut Run, side: usize, sizes: &Sizes) -> Ran {
     let (buckets, slot) = (sizes.buckets as u32, 1 << sizes.position_bits);
-    let entries = [0, 1, 2, 63, 64, 65, buckets - 1, buckets, slot - 1, slot, u32::MAX];
-    let mut rows = vec![vec![]];
-    for _ in 0..3 {
-        let longer = |row: &Vec<u32>| entries.map(|entry| [&row[..], &[entry]].concat());
-        rows = rows.iter().flat_map(longer).collect();
-        for row in &rows {
-            let row = bytes(sizes, row);
-            run.ask_row(side, &row)?;
-            run.ask_row(side, &row[..row.len() - 1])?;
-        }
+    let critical = [0, 1, 2, 63, 64, 65, buckets - 1, buckets, slot - 1, slot, u32::MAX];
+    let of_four = lists_of(4, &[0, 1, 64, buckets - 1]);
+    for row in (1..=3).flat_map(|length| lists_of(length, &critical)).chain(of_four) {
+        let row = entries(sizes, &row);
+        run.ask_row(side, &row)?;
+        run.ask_row(side, &row[..row.len() - 1])?;
     }
     Ok(())
 }
@@ -147,7 +144,7 @@ fn full_rows(run: &mut Run, side: usize, sizes: &Sizes) -> Ran {
     (0..100).try_for_each(|length| run.ask_row(side, &vec![0; length]))?;
     for low in (0..67).chain([127, 128, 129]) {
         let list: Vec<u32> = (low..low + sizes.top as u32).rev().collect();
-        let list = bytes(sizes, &list);
+        let list = entries(sizes, &list);
         (0..20).try_for_each(|more| run.ask_row(side, &[&list[..], &vec![0; more]].concat()))?;
         for spare in (0..66).chain([255]) {
             for blocks in 1..4 {
@@ -164,4 +161,25 @@ fn full_rows(run: &mut Run, side: usize, sizes: &Sizes) -> Ran {
         run.ask_row(side, &[&list[..], &vec![0; sizes.longest + 8 - list.len()]].concat())?;
     }
     Ok(())
+}
+
+/// Full lists with an entry in each of the highest blocks: the last three of them in any order, with
+/// repeats, above no bit, the bit next to them or bit 0; each bit of the last block from the boundary on;
+/// and too long.
+fn spread_rows(run: &mut Run, side: usize, sizes: &Sizes) -> Ran {
+    let highest = sizes.buckets as u32 - 63;
+    let list: Vec<u32> = (0..sizes.top as u32).map(|place| highest - 64 * place).collect();
+    let (first, last) = list.split_at(sizes.top - 3);
+    for last in lists_of(3, last) {
+        for bits in [&[][..], &[last[2] - 1], &[0]] {
+            run.ask_row(side, &made(sizes, &[first, &last, bits].concat()).row)?;
+        }
+    }
+    let boundary = last[2];
+    for bit in boundary..boundary + 63 {
+        run.ask_row(side, &made(sizes, &[&list[..], &[bit]].concat()).row)?;
+    }
+    let mut row = made(sizes, &list).row;
+    row.resize(sizes.longest + 8, 0);
+    run.ask_row(side, &row)
 }

@@ -1,20 +1,27 @@
 //! The smallest input that still shows what was found.
 
-use crate::cases::{Call, Case, Compare, Difference, Subject};
+use crate::cases::{Call, Case, Compare, Compared, Difference, Subject};
 use crate::caught::caught;
-use crate::inputs::{Mask, Plan, Step};
+use crate::inputs::{Mask, Plan};
 use std::ops::Range;
 
-/// Goes from an input to a smaller one for as long as one of them still shows it.
-pub fn shrunk<T, I: Iterator<Item = T>>(
+/// Both answers, where they differ, or where the Rust panics.
+pub fn difference(compare: impl FnOnce() -> Compared) -> Option<Difference> {
+    caught(compare).unwrap_or_else(|panic| Err(Difference::panics(panic))).err()
+}
+
+/// Goes from an input to a smaller one for as long as one of them still differs; the last, and both
+/// answers to it.
+pub fn smallest<T, I: Iterator<Item = T>>(
     mut input: T,
     smaller: impl Fn(&T) -> I,
-    mut shows: impl FnMut(&T) -> bool,
-) -> T {
-    while let Some(next) = smaller(&input).find(|next| shows(next)) {
+    mut difference: impl FnMut(&T) -> Option<Difference>,
+) -> (T, Option<Difference>) {
+    while let Some(next) = smaller(&input).find(|next| difference(next).is_some()) {
         input = next;
     }
-    input
+    let difference = difference(&input);
+    (input, difference)
 }
 
 /// Parts of a list that can be left out: all of it, halves, quarters, and so on to single elements.
@@ -44,23 +51,17 @@ impl Reproduction {
         Self { call, a, b, list, mask, place, plan }
     }
 
-    /// Both answers, where they differ, or where the Rust panics.
     fn difference(&self, compare: &mut Compare) -> Option<Difference> {
-        let compared = caught(|| {
+        difference(|| {
             let subject = |set: &Vec<u32>| Subject::new(&compare.sizes, set.clone(), true);
             let (a, b) = (&subject(&self.a), &subject(&self.b));
             let Self { call, mask, place, .. } = *self;
             compare.compare(&Case { call, a, b, list: &self.list, mask, place, plan: &self.plan })
-        });
-        compared.unwrap_or_else(|panic| Err(Difference::panics(panic))).err()
+        })
     }
 
     fn lists(&mut self) -> Vec<&mut Vec<u32>> {
-        let pushed = self.plan.steps.iter_mut().filter_map(|step| match step {
-            Step::Push(list) => Some(list),
-            Step::Raise(_) => None,
-        });
-        [&mut self.a, &mut self.b, &mut self.list].into_iter().chain(pushed).collect()
+        [&mut self.a, &mut self.b, &mut self.list].into_iter().chain(self.plan.lists()).collect()
     }
 
     /// Without a part of the plan's steps, or of the buckets of both sets, or of a list.
@@ -85,10 +86,7 @@ impl Reproduction {
         lengths.into_iter().enumerate().flat_map(each).map(move |(which, part)| from.without(which, part))
     }
 
-    /// The smallest that still differs, and both answers to it.
     pub fn smallest(self, compare: &mut Compare) -> (Self, Option<Difference>) {
-        let smallest = shrunk(self, Self::smaller, |input| input.difference(compare).is_some());
-        let difference = smallest.difference(compare);
-        (smallest, difference)
+        smallest(self, Self::smaller, |input| input.difference(compare))
     }
 }

@@ -1,7 +1,7 @@
 //! Rows that may be spoiled, held against the Rust: what we take it must read as the same, and what we
 //! refuse must be of a kind (see kinds.rs) and be met by the Rust as that kind says.
 
-use crate::cases::{hex, holds, same, Compared, Difference};
+use crate::cases::{hex, holds_filter, same, Compared, Difference};
 use crate::caught::caught;
 use crate::kinds::{faults, Kind, Shown, KINDS, QUESTIONS};
 use crate::ours::{self, Lent};
@@ -42,10 +42,13 @@ impl Spoiled {
         }
     }
 
-    /// The answers that kinds name and that were not seen.
+    /// The kinds that no row has alone, and the answers that kinds name and that were not seen.
     pub fn unseen(&self) -> Vec<String> {
         let mut unseen = vec![];
         for (kind, seen) in self.seen.iter().enumerate() {
+            if seen.alone == 0 {
+                unseen.push(KINDS[kind].name.into());
+            }
             for (question, words) in seen.words.iter().enumerate() {
                 let missing = declared(kind, question).chars().filter(|word| !words.contains(word));
                 unseen.extend(
@@ -153,8 +156,7 @@ fn borrowed(shown: &Shown) -> Result<Option<Made>, Difference> {
 fn taken(shown: &Shown, target: &Lent) -> Compared {
     let (config, set) = (shown.sizes.config, shown.set());
     let Some(made) = borrowed(shown)? else { return fault("taken", "not read") };
-    let record = [config.into(), made.parts.list.len() as u64, made.parts.boundary as u64];
-    holds(target, Ok(()), record, &made.parts)?;
+    holds_filter(config, target, Ok(()), &made.parts)?;
     same(ours::open(config, shown.row), set.len())?;
     same(Ok(set), probe::ones_of(config, Given::Row(shown.row)))
 }

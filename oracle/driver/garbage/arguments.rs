@@ -1,10 +1,35 @@
 //! What a call is given.
 
-use super::calls::Thing;
-use super::judge::sizes_of;
 use super::lent::{Kind, Lent};
+use super::sizes::sizes_of;
 use crate::ffi;
 use crate::random::Random;
+
+/// What stands in a call's parameters, one or more of them together.
+#[derive(Clone, Copy, PartialEq)]
+pub enum Thing {
+    Config,
+    Split,
+    /// A mask and its size.
+    Mask,
+    /// A number of which nothing is asked.
+    Number,
+    /// A record and its two areas.
+    Filter,
+    Builder,
+    /// A record and two areas that are only written.
+    FilterRoom,
+    BuilderRoom,
+    List,
+    Row,
+    /// The record of a row reader.
+    Reader,
+    Text,
+    /// Where a row, or the answer to a text, is to be written.
+    Buffer,
+    /// Cells for an answer.
+    Cells(usize),
+}
 
 /// A thing, with the places of its first number and its first slice among the call's.
 #[derive(Clone, Copy)]

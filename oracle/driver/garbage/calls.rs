@@ -1,37 +1,14 @@
 //! The exported calls: what each is given, what it may write, and the numbers it can answer.
 
-use self::Thing::*;
-use super::arguments::Arguments;
+use super::arguments::Thing::*;
+use super::arguments::{Arguments, Thing};
 use crate::ffi;
-
-/// What stands in a call's parameters, one or more of them together.
-#[derive(Clone, Copy, PartialEq)]
-pub enum Thing {
-    Config,
-    Split,
-    /// A mask and its size.
-    Mask,
-    /// A number of which nothing is asked.
-    Number,
-    /// A record and its two areas.
-    Filter,
-    Builder,
-    /// A record and two areas that are only written.
-    FilterRoom,
-    BuilderRoom,
-    List,
-    Row,
-    /// The record of a row reader.
-    Reader,
-    Text,
-    /// Where a row, or the answer to a text, is to be written.
-    Buffer,
-    /// Cells for an answer.
-    Cells(usize),
-}
 
 /// In the place of 3, where it is for the buffer.
 pub const BUFFER: u8 = 12;
+
+/// The numbers that a call may answer, where they are known without judging.
+pub type Allowed = Option<&'static [u8]>;
 
 pub struct Call {
     pub name: &'static str,

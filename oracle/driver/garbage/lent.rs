@@ -1,7 +1,7 @@
 //! The memory that is lent to a call: slices side by side, with noise before, between and behind them. It is made
 //! as an image first, and the call is given a copy, so that afterwards one comparison tells every byte that changed.
 
-use super::wild::any_number;
+use super::numbers::any_number;
 use crate::random::Random;
 use std::ops::Range;
 

@@ -1,9 +1,8 @@
 //! Sound things. Filters, builders, rows and texts are made once, from 01's definitions, and lent from there.
 
-use super::arguments::Arguments;
-use super::calls::Thing;
-use super::judge::{sizes_of, Sizes};
+use super::arguments::{Arguments, Thing};
 use super::lent::{bytes_of, Kind};
+use super::sizes::{sizes_of, Sizes};
 use crate::random::Random;
 use std::collections::BTreeSet;
 use std::fmt::Write;

@@ -1,15 +1,14 @@
 //! Ways to spoil one sound thing. Each tells the numbers that 01 allows the call then, all else being sound. Where a
 //! thing cannot be spoiled so, it stays as it is and nothing is told.
 
-use super::arguments::{Arguments, Given};
-use super::calls::{Thing, BUFFER};
+use super::arguments::{Arguments, Given, Thing};
+use super::calls::{Allowed, BUFFER};
 use super::judge::sizes;
+use super::numbers::{any_number, at_least};
 use super::spoil_areas::*;
 use super::spoil_row::*;
-use super::wild::{any_number, known, unknown};
 use crate::random::Random;
 
-pub type Allowed = Option<&'static [u8]>;
 type Way = fn(&mut Arguments, Given, &mut Random) -> Allowed;
 
 /// Spoils a thing in any of its ways.
@@ -45,28 +44,6 @@ pub fn spoil(a: &mut Arguments, given: Given, random: &mut Random) -> Allowed {
         Thing::Cells(_) => return None,
     };
     random.one_of(ways)(a, given, random)
-}
-
-/// A number of so many bits that is `least` or more.
-pub fn at_least(least: u64, bits: u64, random: &mut Random) -> u64 {
-    let high = 1 << (bits - 1);
-    let any = any_number(bits, random);
-    *random.one_of(&[least, least + 1, high, any | high, any.max(least), u64::MAX >> (64 - bits)])
-}
-
-/// No configuration, or another one; then what is lent may be too short, refused as it is, or sound.
-pub fn other_config(config: u64, random: &mut Random) -> (u64, Allowed) {
-    let other = known(random);
-    if other == config || random.once_in(2) {
-        return (unknown(random), Some(&[1]));
-    }
-    (other, Some(&[0, 3, 8, 9, 4, 2, 5, BUFFER]))
-}
-
-fn config(a: &mut Arguments, given: Given, random: &mut Random) -> Allowed {
-    let (other, allowed) = other_config(a.numbers[given.number], random);
-    a.numbers[given.number] = other;
-    allowed
 }
 
 fn split(a: &mut Arguments, given: Given, random: &mut Random) -> Allowed {

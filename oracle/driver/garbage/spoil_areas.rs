@@ -1,11 +1,26 @@
-//! Ways to spoil a record or one of its areas.
+//! Ways to spoil a configuration number, a record or one of its areas.
 
-use super::arguments::{Arguments, Given};
-use super::calls::Thing;
-use super::judge::{sizes_of, Sizes};
-use super::spoil::{at_least, other_config, Allowed};
-use super::wild::any_number;
+use super::arguments::{Arguments, Given, Thing};
+use super::calls::{Allowed, BUFFER};
+use super::numbers::{any_number, at_least};
+use super::sizes::{sizes_of, Sizes};
+use super::wild::{known, unknown};
 use crate::random::Random;
+
+/// No configuration, or another one; then what is lent may be too short, refused as it is, or sound.
+fn other_config(config: u64, random: &mut Random) -> (u64, Allowed) {
+    let other = known(random);
+    if other == config || random.once_in(2) {
+        return (unknown(random), Some(&[1]));
+    }
+    (other, Some(&[0, 3, 8, 9, 4, 2, 5, BUFFER]))
+}
+
+pub fn config(a: &mut Arguments, given: Given, random: &mut Random) -> Allowed {
+    let (other, allowed) = other_config(a.numbers[given.number], random);
+    a.numbers[given.number] = other;
+    allowed
+}
 
 pub fn config_cell(a: &mut Arguments, given: Given, random: &mut Random) -> Allowed {
     let (other, allowed) = other_config(a.lent.get(given.slice, 0), random);

@@ -1,8 +1,10 @@
 //! Ways to spoil a row.
 
 use super::arguments::{Arguments, Given};
-use super::judge::{sizes, Sizes};
-use super::spoil::{at_least, Allowed};
+use super::calls::Allowed;
+use super::judge::sizes;
+use super::numbers::at_least;
+use super::sizes::Sizes;
 use crate::random::Random;
 
 /// A sound row, as far as spoiling it goes.

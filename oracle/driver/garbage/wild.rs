@@ -1,21 +1,10 @@
 //! Things that are wholly garbage: numbers of any magnitude, slices of any length, with noise or zeros in them.
 
-use super::arguments::Arguments;
-use super::calls::Thing;
-use super::judge::{sizes_of, Sizes};
+use super::arguments::{Arguments, Thing};
 use super::lent::Kind;
+use super::numbers::any_number;
+use super::sizes::{sizes_of, Sizes};
 use crate::random::Random;
-
-/// A number of at most so many bits, of any magnitude, the edges among them.
-pub fn any_number(bits: u64, random: &mut Random) -> u64 {
-    let most = u64::MAX >> (64 - bits);
-    match random.number(16) {
-        0 => 0,
-        1 => most,
-        2 => most / 2 + 1,
-        _ => (random.next() & most) >> random.number(bits),
-    }
-}
 
 /// A configuration: mostly the one with the small areas.
 pub fn known(random: &mut Random) -> u64 {
