@@ -1,22 +1,19 @@
 // The manual's examples on rows, and 01's edges that speak of rows. Each check tells whether the calls answer as written there; the
 // program writes a letter for each, y or n.
-use diff_count::Filter;
 use diff_count::Made;
-use libc::STDOUT_FILENO;
+use examples::blocks_are;
+use examples::cells_are;
+use examples::end_line;
+use examples::filter_of;
+use examples::is_filter;
+use examples::refusal_of;
+use examples::tell;
 use masked::OrderAnswer;
 use row_reader::RowStep;
-use row_reader::Stepped;
 use rows::OpenAnswer;
 use rows::WriteAnswer;
 
 // ---- writing
-
-fn filter_of(top: &mut [u32], blocks: &mut [u64], list: &[u32]) -> Made {
-    match diff_count::empty(7, top, blocks) {
-        Made::Ready(f) => f.toggle(top, blocks, list),
-        Made::Refused(r) => Made::Refused(r),
-    }
-}
 
 // Writes the row of the buckets listed, and tells its length, or 1000 and the number of the refusal.
 fn row_of(list: &[u32], to: &mut [u8]) -> usize {
@@ -91,19 +88,14 @@ fn a_short_buffer_stays() -> bool {
 fn read_refusal(config: u64, row: &[u8]) -> u8 {
     let mut top = [7u32; 12];
     let mut blocks = [7u64; 130];
-    match rows::read(config, row, &mut top, &mut blocks) {
-        Made::Ready(_) => 0,
-        Made::Refused(r) => r.number,
-    }
+    refusal_of(rows::read(config, row, &mut top, &mut blocks))
 }
 
 fn two_entries_are_read() -> bool {
     let mut top = [7u32; 12];
     let mut blocks = [7u64; 130];
-    let Made::Ready(f) = rows::read(7, &[6, 0, 5, 0], &mut top, &mut blocks) else {
-        return false;
-    };
-    f.count == 2 && f.boundary == 0 && top[0] == 6 && top[1] == 5 && top[2] == 0 && blocks[0] == 0
+    let made = rows::read(7, &[6, 0, 5, 0], &mut top, &mut blocks);
+    is_filter(made, 2, 0) && cells_are(&top, &[6, 5, 0]) && blocks[0] == 0
 }
 
 fn rows_that_no_set_has() -> bool {
@@ -119,33 +111,20 @@ fn two_before_five() -> bool {
     read_refusal(7, &[5, 0, 6, 0, 255, 255]) == 2
 }
 
-// What was written is read back: the record is the same, and so is the set.
-fn same_filter(f: Filter, top: &[u32], blocks: &[u64], row: &[u8]) -> bool {
-    let mut top2 = [7u32; 12];
-    let mut blocks2 = [7u64; 130];
-    let Made::Ready(g) = rows::read(7, row, &mut top2, &mut blocks2) else {
-        return false;
-    };
-    match masked::cmp_masked(f, top, blocks, g, &top2, &blocks2, 1, 1) {
-        OrderAnswer::Less => false,
-        OrderAnswer::Equal => f.count == g.count && f.boundary == g.boundary,
-        OrderAnswer::Greater => false,
-        OrderAnswer::Refused(_) => false,
-    }
+// Whether a row is that of the buckets 13 down to 1.
+fn thirteen_are_read(row: &[u8]) -> bool {
+    let mut top = [7u32; 12];
+    let mut blocks = [7u64; 130];
+    let made = rows::read(7, row, &mut top, &mut blocks);
+    is_filter(made, 12, 2)
+        && cells_are(&top, &[13, 12, 11, 10, 9, 8, 7, 6, 5, 4, 3, 2])
+        && blocks_are(&blocks, &[2, 0, 0])
 }
 
 fn written_and_read_back() -> bool {
-    let mut top = [0u32; 12];
-    let mut blocks = [0u64; 130];
     let mut to = [0u8; 33];
     let list = [13u32, 12, 11, 10, 9, 8, 7, 6, 5, 4, 3, 2, 1];
-    let Made::Ready(f) = filter_of(&mut top, &mut blocks, &list) else {
-        return false;
-    };
-    match rows::write(f, &top, &blocks, &mut to) {
-        WriteAnswer::Written(length) => length == 33 && same_filter(f, &top, &blocks, &to),
-        WriteAnswer::Refused(_) => false,
-    }
+    row_of(&list, &mut to) == 33 && thirteen_are_read(&to)
 }
 
 // ---- two rows
@@ -181,16 +160,19 @@ fn the_greater_row_itself() -> bool {
 
 // ---- stepping
 
-fn gives(step: Stepped, bucket: u32, place: usize) -> bool {
+// A place holds that bucket, and then comes the next place.
+fn gives(row: &[u8], place: usize, bucket: u32, next: usize) -> bool {
+    let step = row_reader::step_at(row, 7, place);
     let answer = step.answer;
     match answer {
-        RowStep::Bucket(p) => p == bucket && step.place == place,
+        RowStep::Bucket(p) => p == bucket && step.place == next,
         RowStep::End => false,
         RowStep::Refused(_) => false,
     }
 }
 
-fn ends(step: Stepped, place: usize) -> bool {
+fn ends(row: &[u8], place: usize) -> bool {
+    let step = row_reader::step_at(row, 7, place);
     let answer = step.answer;
     match answer {
         RowStep::Bucket(_) => false,
@@ -199,7 +181,8 @@ fn ends(step: Stepped, place: usize) -> bool {
     }
 }
 
-fn refuses(step: Stepped, number: u8, place: usize) -> bool {
+fn refuses(row: &[u8], config: u64, place: usize, number: u8) -> bool {
+    let step = row_reader::step_at(row, config, place);
     let answer = step.answer;
     match answer {
         RowStep::Bucket(_) => false,
@@ -210,42 +193,29 @@ fn refuses(step: Stepped, number: u8, place: usize) -> bool {
 
 fn stepping_through_a_row() -> bool {
     let row = [5u8, 0, 0, 0];
-    gives(row_reader::step_at(&row, 7, 0), 5, 1)
-        && gives(row_reader::step_at(&row, 7, 1), 0, 2)
-        && ends(row_reader::step_at(&row, 7, 2), 2)
-        && ends(row_reader::step_at(&row, 7, 90), 90)
+    gives(&row, 0, 5, 1) && gives(&row, 1, 0, 2) && ends(&row, 2) && ends(&row, 90)
 }
 
 fn stepping_on_a_row_that_no_set_has() -> bool {
     let row = [5u8, 0, 5, 0];
-    refuses(row_reader::step_at(&row, 7, 1), 5, 1) && refuses(row_reader::step_at(&row, 8, 1), 1, 1)
-}
-
-fn letter(right: bool) -> u8 {
-    if right {
-        return 121;
-    }
-    110
+    refuses(&row, 7, 1, 5) && refuses(&row, 8, 1, 1)
 }
 
 fn main() {
-    let out = [
-        letter(the_empty_row()),
-        letter(a_full_list_down_to_bucket_0_has_no_bit_part()),
-        letter(a_row_cut_at_24_bytes_is_refused()),
-        letter(the_thirteenth_is_a_bit()),
-        letter(boundaries_64_and_65()),
-        letter(a_short_buffer_stays()),
-        letter(two_entries_are_read()),
-        letter(rows_that_no_set_has()),
-        letter(two_before_five()),
-        letter(written_and_read_back()),
-        letter(the_order_of_two_rows()),
-        letter(the_first_row_is_judged_first()),
-        letter(the_greater_row_itself()),
-        letter(stepping_through_a_row()),
-        letter(stepping_on_a_row_that_no_set_has()),
-        10,
-    ];
-    io::write_all(STDOUT_FILENO, &out);
+    tell(the_empty_row());
+    tell(a_full_list_down_to_bucket_0_has_no_bit_part());
+    tell(a_row_cut_at_24_bytes_is_refused());
+    tell(the_thirteenth_is_a_bit());
+    tell(boundaries_64_and_65());
+    tell(a_short_buffer_stays());
+    tell(two_entries_are_read());
+    tell(rows_that_no_set_has());
+    tell(two_before_five());
+    tell(written_and_read_back());
+    tell(the_order_of_two_rows());
+    tell(the_first_row_is_judged_first());
+    tell(the_greater_row_itself());
+    tell(stepping_through_a_row());
+    tell(stepping_on_a_row_that_no_set_has());
+    end_line();
 }

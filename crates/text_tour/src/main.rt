@@ -1,7 +1,8 @@
 // The manual's examples on the comparing call. Each check tells whether the call answers as written there; the program writes a letter
 // for each, y or n.
 use compare_text::TextAnswer;
-use libc::STDOUT_FILENO;
+use examples::end_line;
+use examples::tell;
 
 fn the_answer_stands_at_the_beginning() -> bool {
     let mut out = [170u8; 322];
@@ -19,18 +20,8 @@ fn a_buffer_that_is_too_short_stays() -> bool {
     }
 }
 
-fn letter(right: bool) -> u8 {
-    if right {
-        return 121;
-    }
-    110
-}
-
 fn main() {
-    let out = [
-        letter(the_answer_stands_at_the_beginning()),
-        letter(a_buffer_that_is_too_short_stays()),
-        10,
-    ];
-    io::write_all(STDOUT_FILENO, &out);
+    tell(the_answer_stands_at_the_beginning());
+    tell(a_buffer_that_is_too_short_stays());
+    end_line();
 }

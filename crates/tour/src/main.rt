@@ -1,107 +1,86 @@
 // The manual's examples and some of 01's edges. Each check tells whether the calls answer as written there; the program writes a letter
-// for each, y or n.
+// for each, y or n, and none where a filter to try them on was not made.
 use counts::CountAnswer;
 use counts::LimitedAnswer;
 use diff_count::Filter;
 use diff_count::Made;
-use libc::STDOUT_FILENO;
+use examples::blocks_are;
+use examples::cells_are;
+use examples::end_line;
+use examples::filter_of;
+use examples::is_filter;
+use examples::refusal_of;
+use examples::tell;
 use masked::KeyAnswer;
 use masked::OrderAnswer;
 
 // ---- making
 
-fn filter_of(top: &mut [u32], blocks: &mut [u64], list: &[u32]) -> Made {
-    match diff_count::empty(7, top, blocks) {
-        Made::Ready(f) => f.toggle(top, blocks, list),
-        Made::Refused(r) => Made::Refused(r),
-    }
-}
-
-// The number of the refusal, 0 where there is none.
-fn refusal_of(made: Made) -> u8 {
-    match made {
-        Made::Ready(_) => 0,
-        Made::Refused(r) => r.number,
-    }
-}
-
-fn toggling_twice_leaves_nothing() -> bool {
-    let mut top = [0u32; 12];
-    let mut blocks = [0u64; 130];
-    let Made::Ready(f) = filter_of(&mut top, &mut blocks, &[5, 5]) else {
-        return false;
-    };
-    f.count == 0 && top[0] == 0
-}
-
-fn the_thirteenth_goes_to_the_blocks() -> bool {
-    let mut top = [0u32; 12];
-    let mut blocks = [0u64; 130];
-    let twelve = [12u32, 11, 10, 9, 8, 7, 6, 5, 4, 3, 2, 1];
-    let Made::Ready(f) = filter_of(&mut top, &mut blocks, &twelve) else {
-        return false;
-    };
-    let Made::Ready(g) = f.toggle(&mut top, &mut blocks, &[13]) else {
-        return false;
-    };
-    f.boundary == 1 && g.boundary == 2 && top[0] == 13 && blocks[0] == 2
-}
-
-fn a_bucket_out_of_range_flips_none() -> bool {
-    let mut top = [0u32; 12];
-    let mut blocks = [0u64; 130];
-    let Made::Ready(f) = filter_of(&mut top, &mut blocks, &[8319]) else {
-        return false;
-    };
-    let made = f.toggle(&mut top, &mut blocks, &[5, 8320]);
-    refusal_of(made) == 2 && top[0] == 8319 && top[1] == 0
+fn empty_refusal(config: u64, top: &mut [u32], blocks: &mut [u64]) -> u8 {
+    refusal_of(diff_count::empty(config, top, blocks))
 }
 
 fn short_slices_and_unknown_numbers() -> bool {
     let mut top = [1u32; 12];
     let mut short = [1u64; 129];
-    let unlent = diff_count::empty(7, &mut top, &mut short);
-    let unknown = diff_count::empty(263, &mut top, &mut short);
-    refusal_of(unlent) == 3 && refusal_of(unknown) == 1 && top[0] == 1 && short[0] == 1
+    empty_refusal(7, &mut top, &mut short) == 3
+        && empty_refusal(263, &mut top, &mut short) == 1
+        && top[0] == 1
+        && short[0] == 1
 }
 
-fn an_old_record_no_longer_fits() -> bool {
+// ---- toggling
+
+fn toggling_twice_leaves_nothing() -> bool {
     let mut top = [0u32; 12];
     let mut blocks = [0u64; 130];
-    let Made::Ready(f) = diff_count::empty(7, &mut top, &mut blocks) else {
-        return false;
+    let made = filter_of(&mut top, &mut blocks, &[5, 5]);
+    is_filter(made, 0, 0) && top[0] == 0
+}
+
+fn the_thirteenth_goes_to_the_blocks(f: Filter, top: &mut [u32], blocks: &mut [u64]) -> bool {
+    let made = f.toggle(top, blocks, &[13]);
+    f.boundary == 1 && is_filter(made, 12, 2) && cells_are(top, &[13]) && blocks_are(blocks, &[2])
+}
+
+fn a_bucket_out_of_range_flips_none(f: Filter, top: &mut [u32], blocks: &mut [u64]) -> bool {
+    refusal_of(f.toggle(top, blocks, &[5, 8320])) == 2 && cells_are(top, &[8319, 0])
+}
+
+fn an_old_record_no_longer_fits(f: Filter, top: &mut [u32], blocks: &mut [u64]) -> bool {
+    is_filter(f.toggle(top, blocks, &[5]), 2, 0) && refusal_of(f.toggle(top, blocks, &[6])) == 8
+}
+
+fn toggling_one_bucket() {
+    let mut top = [0u32; 12];
+    let mut blocks = [0u64; 130];
+    let Made::Ready(f) = filter_of(&mut top, &mut blocks, &[8319]) else {
+        return;
     };
-    let Made::Ready(_) = f.toggle(&mut top, &mut blocks, &[5]) else {
-        return false;
+    tell(a_bucket_out_of_range_flips_none(f, &mut top, &mut blocks));
+    tell(an_old_record_no_longer_fits(f, &mut top, &mut blocks));
+}
+
+fn toggling_twelve_buckets() {
+    let mut top = [0u32; 12];
+    let mut blocks = [0u64; 130];
+    let twelve = [12u32, 11, 10, 9, 8, 7, 6, 5, 4, 3, 2, 1];
+    let Made::Ready(f) = filter_of(&mut top, &mut blocks, &twelve) else {
+        return;
     };
-    refusal_of(f.toggle(&mut top, &mut blocks, &[6])) == 8
+    tell(the_thirteenth_goes_to_the_blocks(f, &mut top, &mut blocks));
 }
 
 // ---- two filters
 
+// The count, or 1000 and the number of the refusal.
 fn count_of(answer: CountAnswer) -> usize {
     match answer {
         CountAnswer::Count(n) => n,
-        CountAnswer::Refused(_) => 0,
+        CountAnswer::Refused(r) => 1000 + r.number as usize,
     }
 }
 
-fn in_exactly_one_of_two() -> bool {
-    let mut top = [0u32; 12];
-    let mut blocks = [0u64; 130];
-    let mut top2 = [0u32; 12];
-    let mut blocks2 = [0u64; 130];
-    let Made::Ready(a) = filter_of(&mut top, &mut blocks, &[5, 7]) else {
-        return false;
-    };
-    let Made::Ready(b) = filter_of(&mut top2, &mut blocks2, &[7, 9]) else {
-        return false;
-    };
-    third_of(a, &top, &blocks, b, &top2, &blocks2)
-        && count_of(counts::exact_difference(a, &top, &blocks, b, &top2, &blocks2)) == 2
-}
-
-// Whether 9 and 5 are in exactly one of the two.
 fn third_of(
     a: Filter,
     top: &[u32],
@@ -122,32 +101,67 @@ fn third_of(
         &mut to_top,
         &mut to_blocks,
     );
-    let Made::Ready(c) = made else {
-        return false;
-    };
-    c.count == 2 && to_top[0] == 9 && to_top[1] == 5
+    is_filter(made, 2, 0) && cells_are(&to_top, &[9, 5])
 }
 
-fn two_configurations() -> bool {
-    let mut top = [0u32; 64];
-    let mut blocks = [0u64; 1040];
-    let mut top2 = [0u32; 12];
-    let mut blocks2 = [0u64; 130];
-    let Made::Ready(a) = diff_count::empty(10, &mut top, &mut blocks) else {
+fn in_exactly_one_of_two(
+    made: Made,
+    top: &[u32],
+    blocks: &[u64],
+    made2: Made,
+    top2: &[u32],
+    blocks2: &[u64],
+) -> bool {
+    let Made::Ready(a) = made else {
         return false;
     };
-    let Made::Ready(b) = diff_count::empty(7, &mut top2, &mut blocks2) else {
+    let Made::Ready(b) = made2 else {
         return false;
     };
-    match counts::exact_difference(a, &top, &blocks, b, &top2, &blocks2) {
-        CountAnswer::Count(_) => false,
-        CountAnswer::Refused(r) => r.number == 9,
-    }
+    third_of(a, top, blocks, b, top2, blocks2)
+        && count_of(counts::exact_difference(a, top, blocks, b, top2, blocks2)) == 2
+}
+
+fn two_configurations(
+    made: Made,
+    top: &[u32],
+    blocks: &[u64],
+    made2: Made,
+    top2: &[u32],
+    blocks2: &[u64],
+) -> bool {
+    let Made::Ready(a) = made else {
+        return false;
+    };
+    let Made::Ready(b) = made2 else {
+        return false;
+    };
+    count_of(counts::exact_difference(a, top, blocks, b, top2, blocks2)) == 1009
+}
+
+fn two_filters() {
+    let mut top = [0u32; 12];
+    let mut blocks = [0u64; 130];
+    let mut top2 = [0u32; 64];
+    let mut blocks2 = [0u64; 1040];
+    let a = filter_of(&mut top, &mut blocks, &[5, 7]);
+    let b = filter_of(&mut top2, &mut blocks2, &[7, 9]);
+    tell(in_exactly_one_of_two(a, &top, &blocks, b, &top2, &blocks2));
+    let c = diff_count::empty(10, &mut top2, &mut blocks2);
+    tell(two_configurations(a, &top, &blocks, c, &top2, &blocks2));
 }
 
 // ---- counts
 
-fn limited_is(last: u32, count: usize, bound: usize) -> bool {
+fn limited_is(f: Filter, top: &[u32], blocks: &[u64], count: usize, bound: usize) -> bool {
+    match counts::limited_count(f, top, blocks) {
+        LimitedAnswer::Count(c) => c.count == count && c.bound == bound,
+        LimitedAnswer::Refused(_) => false,
+    }
+}
+
+// Of 8,308 to 8,319 and one bucket more.
+fn limited_with(last: u32, count: usize, bound: usize) -> bool {
     let mut top = [0u32; 12];
     let mut blocks = [0u64; 130];
     let list = [
@@ -168,14 +182,8 @@ fn limited_is(last: u32, count: usize, bound: usize) -> bool {
     let Made::Ready(f) = filter_of(&mut top, &mut blocks, &list) else {
         return false;
     };
-    match counts::limited_count(f, &top, &blocks) {
-        LimitedAnswer::Count(c) => {
-            c.count == count
-                && c.bound == bound
-                && count_of(counts::exact_count(f, &top, &blocks)) == 13
-        }
-        LimitedAnswer::Refused(_) => false,
-    }
+    limited_is(f, &top, &blocks, count, bound)
+        && count_of(counts::exact_count(f, &top, &blocks)) == 13
 }
 
 // ---- masks
@@ -197,19 +205,16 @@ fn same_key(
     k == l
 }
 
-fn equal_keys_decide_nothing() -> bool {
-    let mut top = [0u32; 12];
-    let mut blocks = [0u64; 130];
-    let mut top2 = [0u32; 12];
-    let mut blocks2 = [0u64; 130];
-    let Made::Ready(a) = filter_of(&mut top, &mut blocks, &[5]) else {
-        return false;
-    };
-    let Made::Ready(b) = filter_of(&mut top2, &mut blocks2, &[5, 0]) else {
-        return false;
-    };
-    let alike = same_key(a, &top, &blocks, b, &top2, &blocks2);
-    match masked::cmp_masked(a, &top, &blocks, b, &top2, &blocks2, 1, 1) {
+fn equal_keys_decide_nothing(
+    a: Filter,
+    top: &[u32],
+    blocks: &[u64],
+    b: Filter,
+    top2: &[u32],
+    blocks2: &[u64],
+) -> bool {
+    let alike = same_key(a, top, blocks, b, top2, blocks2);
+    match masked::cmp_masked(a, top, blocks, b, top2, blocks2, 1, 1) {
         OrderAnswer::Less => alike,
         OrderAnswer::Equal => false,
         OrderAnswer::Greater => false,
@@ -217,62 +222,65 @@ fn equal_keys_decide_nothing() -> bool {
     }
 }
 
+// {5} and {5, 0}.
+fn two_filters_with_one_key() {
+    let mut top = [0u32; 12];
+    let mut blocks = [0u64; 130];
+    let mut top2 = [0u32; 12];
+    let mut blocks2 = [0u64; 130];
+    let Made::Ready(a) = filter_of(&mut top, &mut blocks, &[5]) else {
+        return;
+    };
+    let Made::Ready(b) = filter_of(&mut top2, &mut blocks2, &[5, 0]) else {
+        return;
+    };
+    tell(equal_keys_decide_nothing(a, &top, &blocks, b, &top2, &blocks2));
+}
+
+// The low byte of a key; or 1000 and the number of the refusal.
+fn low_byte(f: Filter, top: &[u32], blocks: &[u64], mask: u64, size: usize) -> u64 {
+    match masked::masked_sort_key(f, top, blocks, mask, size) {
+        KeyAnswer::Key(k) => k % 256,
+        KeyAnswer::Refused(r) => 1000 + r.number as u64,
+    }
+}
+
 fn fifth_bucket_in_the_low_byte(fifth: u32, low: u64) -> bool {
     let mut top = [0u32; 12];
     let mut blocks = [0u64; 130];
-    let list = [400u32, 300, 200, 100, fifth];
-    let Made::Ready(f) = filter_of(&mut top, &mut blocks, &list) else {
+    let Made::Ready(f) = filter_of(&mut top, &mut blocks, &[400, 300, 200, 100, fifth]) else {
         return false;
     };
-    match masked::masked_sort_key(f, &top, &blocks, 1, 1) {
-        KeyAnswer::Key(k) => k % 256 == low,
-        KeyAnswer::Refused(_) => false,
-    }
+    low_byte(f, &top, &blocks, 1, 1) == low
 }
 
-// The number with which a mask is refused, 0 where it is taken, 255 where no filter was made.
-fn mask_refusal(mask: u64, size: usize) -> u8 {
-    let mut top = [0u32; 12];
-    let mut blocks = [0u64; 130];
-    let Made::Ready(f) = diff_count::empty(7, &mut top, &mut blocks) else {
-        return 255;
-    };
-    match masked::masked_sort_key(f, &top, &blocks, mask, size) {
-        KeyAnswer::Key(_) => 0,
-        KeyAnswer::Refused(r) => r.number,
-    }
+fn masks_of_a_filter(f: Filter, top: &[u32], blocks: &[u64]) -> bool {
+    low_byte(f, top, blocks, 8, 3) == 1007
+        && low_byte(f, top, blocks, 0, 0) == 1006
+        && low_byte(f, top, blocks, 0, 64) == 1006
+        && low_byte(f, top, blocks, 0, 63) == 0
 }
 
 fn masks_taken_and_refused() -> bool {
-    mask_refusal(8, 3) == 7
-        && mask_refusal(0, 0) == 6
-        && mask_refusal(0, 64) == 6
-        && mask_refusal(0, 63) == 0
-}
-
-fn letter(right: bool) -> u8 {
-    if right {
-        return 121;
-    }
-    110
+    let mut top = [0u32; 12];
+    let mut blocks = [0u64; 130];
+    let Made::Ready(f) = diff_count::empty(7, &mut top, &mut blocks) else {
+        return false;
+    };
+    masks_of_a_filter(f, &top, &blocks)
 }
 
 fn main() {
-    let out = [
-        letter(toggling_twice_leaves_nothing()),
-        letter(the_thirteenth_goes_to_the_blocks()),
-        letter(a_bucket_out_of_range_flips_none()),
-        letter(short_slices_and_unknown_numbers()),
-        letter(an_old_record_no_longer_fits()),
-        letter(in_exactly_one_of_two()),
-        letter(two_configurations()),
-        letter(limited_is(7616, 13, 7616)),
-        letter(limited_is(7615, 12, 0)),
-        letter(equal_keys_decide_nothing()),
-        letter(fifth_bucket_in_the_low_byte(64, 1)),
-        letter(fifth_bucket_in_the_low_byte(63, 0)),
-        letter(masks_taken_and_refused()),
-        10,
-    ];
-    io::write_all(STDOUT_FILENO, &out);
+    tell(short_slices_and_unknown_numbers());
+    tell(toggling_twice_leaves_nothing());
+    toggling_one_bucket();
+    toggling_twelve_buckets();
+    two_filters();
+    tell(limited_with(7616, 13, 7616));
+    tell(limited_with(7615, 12, 0));
+    two_filters_with_one_key();
+    tell(fifth_bucket_in_the_low_byte(64, 1));
+    tell(fifth_bucket_in_the_low_byte(63, 0));
+    tell(masks_taken_and_refused());
+    end_line();
 }
