@@ -27,9 +27,12 @@ unfolding holds each figures
 figures-hold = tt
 
 pub cases-hold : T (each cases)
-unfolding members from digit word held low limitedCount limitedBound packed keyOf bitPart row rowEntries rowBlocks shownRow lengthFits entriesFit fallFault countFault spareFault highFault down holds each cases
+unfolding members from digit word held low limitedCount limitedBound packed keyOf bitPart row rowEntries rowBlocks shownRow
+    lengthFits entriesFit fallFault countFault spareFault highFault down holds each cases
 cases-hold = tt
 
 pub traps-hold : T (each traps)
-unfolding members from digit word held configAt isBuilder low limitedCount limitedBound orderOf packed keyOf bitPart row rowEntries rowBlocks shownRow lengthFits entriesFit fallFault countFault spareFault highFault configLine maskLine rowLine overlap compared judgedSecond judgedRows judgedMasked judgedInput compareText down holds each traps
+unfolding members from digit word held configAt isBuilder low limitedCount limitedBound orderOf packed keyOf bitPart row
+    rowEntries rowBlocks shownRow lengthFits entriesFit fallFault countFault spareFault highFault configLine maskLine rowLine
+    overlap compared judgedSecond judgedRows judgedMasked judgedInput compareText down holds each traps
 traps-hold = tt
