@@ -1,13 +1,19 @@
 // Replays answers of the Rust: standard input is a list of them, one to a line, which `oracle/list` writes (oracle/README.md says how,
 // and what each line holds). The program asks our calls the same, and writes for each call and configuration how many lines it read
-// and how many of them our calls answer otherwise.
+// and how many of them our calls answer otherwise. A line with a field that is not what it should be, or with text behind the last one,
+// is answered otherwise; one whose kind or configuration is none is not understood.
 ghost use mathlib.Core.Path.{_≡_};
 ghost use lib.ListN.{length};
 use builder::Built;
 use counts::CountAnswer;
 use counts::LimitedAnswer;
+use decode::Found;
+use decode::Hex;
+use decode::Number;
 use diff_count::Filter;
 use diff_count::Made;
+use examples::blocks_are;
+use examples::cells_are;
 use libc::STDIN_FILENO;
 use libc::STDOUT_FILENO;
 use masked::KeyAnswer;
@@ -22,9 +28,12 @@ const MOST_LINES: usize = 10000;
 // more bytes than any row has, and more buckets; for a refusal
 const NO_SIZE: usize = 1000000;
 
-// ---- fields of a line. A place past the end has the byte 0, which no field has
+// The place that follows a field which is not what it should be. A line's kind stands there, which is no field: so the next one is
+// none either, and the line does not end there.
+const LOST: usize = 0;
 
-// A number, or a list's or a row's length; and the place of the next field.
+// ---- fields of a line: a number, or a list's or a row's length; and the place of the next field
+
 struct Field {
     value: u64,
     next: usize,
@@ -35,90 +44,95 @@ struct Part {
     next: usize,
 }
 
-fn byte(text: &[u8], i: usize) -> u8 {
-    if i < text.len() {
-        return text[i];
+// The text from a place on; nothing, past the end.
+fn from<'a>(text: &'a [u8], at: usize) -> &'a [u8] {
+    if at <= text.len() {
+        return &text[at..];
     }
-    0
+    &text[..0]
 }
 
-// What a hexadecimal digit stands for; 16 for a byte that is none.
-fn digit(b: u8) -> u8 {
-    if b'0' <= b && b <= b'9' {
-        return b - b'0';
+// The text from a place up to a mark, or to the end.
+fn until<'a>(text: &'a [u8], at: usize, mark: u8) -> &'a [u8] {
+    let rest = from(text, at);
+    match decode::find(rest, mark) {
+        Found::At(i) => first_bytes(rest, i),
+        Found::Nothing => rest,
     }
-    if b'a' <= b && b <= b'f' {
-        return b - b'a' + 10;
-    }
-    16
 }
 
-// The place after the next such byte.
-fn past(text: &[u8], at: usize, mark: u8) -> usize {
-    let mut i = at;
-    while i < text.len() {
-        if text[i] == mark {
-            return i + 1;
-        }
-        i += 1;
+fn word<'a>(line: &'a [u8], at: usize) -> &'a [u8] {
+    until(line, at, b' ')
+}
+
+// The place after a word or a line and its mark.
+fn past(at: usize, part: &[u8]) -> usize {
+    std::num::wrapping_add_usize(std::num::wrapping_add_usize(at, part.len()), 1)
+}
+
+// Whether the last field was the last word.
+fn ends(line: &[u8], next: usize) -> bool {
+    line.len() < next
+}
+
+fn number(line: &[u8], at: usize) -> Field {
+    let digits = word(line, at);
+    match decode::decimal(digits) {
+        Number::Is(value) => Field {
+            value,
+            next: past(at, digits),
+        },
+        Number::Malformed => Field {
+            value: 0,
+            next: LOST,
+        },
     }
-    i
 }
 
-// A decimal.
-fn number(text: &[u8], at: usize) -> Field {
-    let mut value = 0;
-    let mut i = at;
-    while i < text.len() {
-        let d = digit(text[i]);
-        if 9 < d {
-            return Field { value, next: i + 1 };
-        }
-        value = std::num::wrapping_add_u64(ten_times(value), d as u64);
-        i += 1;
+fn no_part() -> Part {
+    Part {
+        count: 0,
+        next: LOST,
     }
-    Field { value, next: i }
 }
 
-fn ten_times(n: u64) -> u64 {
-    std::num::wrapping_add_u64(n << 3, n << 1)
-}
-
-// A list: its length, and its buckets, at the beginning of `to`.
-fn buckets(text: &[u8], at: usize, to: &mut [u32]) -> Part {
-    let listed = number(text, at);
+// A list: its length, and its buckets, at the beginning of `to`, which has room for more.
+fn buckets(line: &[u8], at: usize, to: &mut [u32]) -> Part {
+    let listed = number(line, at);
     let mut next = listed.next;
     let mut i = 0;
     while i < to.len() {
-        if listed.value <= i as u64 {
+        if listed.value == i as u64 {
             return Part { count: i, next };
         }
-        let bucket = number(text, next);
-        to[i] = (bucket.value % 4294967296) as u32;
+        let bucket = number(line, next);
+        if 4294967295 < bucket.value {
+            return no_part();
+        }
+        to[i] = bucket.value as u32;
         next = bucket.next;
         i += 1;
     }
-    Part { count: i, next }
+    no_part()
 }
 
-// A row in hex, at the beginning of `to`; the empty row is `-`.
-fn row(text: &[u8], at: usize, to: &mut [u8]) -> Part {
-    let mut next = at;
-    let mut i = 0;
-    while i < to.len() {
-        let high = digit(byte(text, next));
-        if 15 < high {
-            return Part {
-                count: i,
-                next: past(text, next, b' '),
-            };
-        }
-        let low = digit(byte(text, std::num::wrapping_add_usize(next, 1)));
-        to[i] = 16 * high + low % 16;
-        next = std::num::wrapping_add_usize(next, 2);
-        i += 1;
+// A row in hex, at the beginning of `to`, which has room for more; the empty row is `-`.
+fn row(line: &[u8], at: usize, to: &mut [u8]) -> Part {
+    let digits = word(line, at);
+    let next = past(at, digits);
+    if decode::equals(digits, b"-") {
+        return Part { count: 0, next };
     }
-    Part { count: i, next }
+    if digits.len() == 0 {
+        return no_part();
+    }
+    if to.len() <= digits.len() / 2 {
+        return no_part();
+    }
+    match decode::from_hex(digits, to) {
+        Hex::Bytes(count) => Part { count, next },
+        Hex::Malformed => no_part(),
+    }
 }
 
 // The first n of a list; or all of it, where there are fewer.
@@ -152,9 +166,9 @@ fn toggled(made: Made, top: &mut [u32], blocks: &mut [u64], list: &[u32]) -> Mad
 }
 
 // A filter after the toggles that a line lists.
-fn toggled_at(text: &[u8], at: usize, made: Made, top: &mut [u32], blocks: &mut [u64]) -> Filtered {
+fn toggled_at(line: &[u8], at: usize, made: Made, top: &mut [u32], blocks: &mut [u64]) -> Filtered {
     let mut list = [0u32; 2000];
-    let part = buckets(text, at, &mut list);
+    let part = buckets(line, at, &mut list);
     let made = toggled(made, top, blocks, first_cells(&list, part.count));
     Filtered {
         made,
@@ -163,49 +177,9 @@ fn toggled_at(text: &[u8], at: usize, made: Made, top: &mut [u32], blocks: &mut 
 }
 
 // The filter of a set, which a line lists.
-fn filter_at(text: &[u8], at: usize, config: u64, top: &mut [u32], blocks: &mut [u64]) -> Filtered {
+fn filter_at(line: &[u8], at: usize, config: u64, top: &mut [u32], blocks: &mut [u64]) -> Filtered {
     let made = diff_count::empty(config, top, blocks);
-    toggled_at(text, at, made, top, blocks)
-}
-
-fn cells_are(cells: &[u32], wanted: &[u32]) -> bool {
-    let mut i = 0;
-    while i < cells.len() {
-        if wanted.len() <= i {
-            return false;
-        }
-        if cells[i] != wanted[i] {
-            return false;
-        }
-        i += 1;
-    }
-    true
-}
-
-fn blocks_are(blocks: &[u64], wanted: &[u64]) -> bool {
-    let mut i = 0;
-    while i < blocks.len() {
-        if wanted.len() <= i {
-            return false;
-        }
-        if blocks[i] != wanted[i] {
-            return false;
-        }
-        i += 1;
-    }
-    true
-}
-
-// Whether bytes begin with those.
-fn bytes_are(bytes: &[u8], wanted: &[u8]) -> bool {
-    let mut i = 0;
-    while i < wanted.len() {
-        if byte(bytes, i) != wanted[i] {
-            return false;
-        }
-        i += 1;
-    }
-    true
+    toggled_at(line, at, made, top, blocks)
 }
 
 fn same_record(f: Filter, g: Filter) -> bool {
@@ -222,7 +196,7 @@ fn written(f: Filter, top: &[u32], blocks: &[u64], to: &mut [u8]) -> usize {
 
 fn writes(f: Filter, top: &[u32], blocks: &[u64], wanted: &[u8]) -> bool {
     let mut row = [0u8; 68049];
-    written(f, top, blocks, &mut row) == wanted.len() && bytes_are(&row, wanted)
+    written(f, top, blocks, &mut row) == wanted.len() && decode::starts_with(&row, wanted)
 }
 
 fn reads(f: Filter, top: &[u32], blocks: &[u64], row: &[u8]) -> bool {
@@ -254,33 +228,37 @@ fn is_row(row: &[u8], made: Made, top: &[u32], blocks: &[u64]) -> bool {
     }
 }
 
-// Whether a filter has the row that a line gives.
-fn has_row(text: &[u8], at: usize, made: Made, top: &[u32], blocks: &[u64]) -> bool {
+// The place after the row that a line gives; lost, where a filter has another.
+fn past_row(line: &[u8], at: usize, made: Made, top: &[u32], blocks: &[u64]) -> usize {
     let mut wanted = [0u8; 68050];
-    let part = row(text, at, &mut wanted);
-    is_row(first_bytes(&wanted, part.count), made, top, blocks)
+    let part = row(line, at, &mut wanted);
+    if is_row(first_bytes(&wanted, part.count), made, top, blocks) {
+        return part.next;
+    }
+    LOST
 }
 
-fn counts_are(text: &[u8], at: usize, exact: CountAnswer, limited: LimitedAnswer) -> bool {
-    let ones = number(text, at);
-    let count = number(text, ones.next);
-    let bound = number(text, count.next);
+fn counts_are(line: &[u8], at: usize, exact: CountAnswer, limited: LimitedAnswer) -> bool {
+    let ones = number(line, at);
+    let count = number(line, ones.next);
+    let bound = number(line, count.next);
     let CountAnswer::Count(n) = exact else {
         return false;
     };
     let LimitedAnswer::Count(l) = limited else {
         return false;
     };
-    ones.value == n as u64 && count.value == l.count as u64 && bound.value == l.bound as u64
+    ones.value == n as u64
+        && count.value == l.count as u64
+        && bound.value == l.bound as u64
+        && ends(line, bound.next)
 }
 
-// Whether an order is the word at a place.
-fn order_is(text: &[u8], at: usize, order: OrderAnswer) -> bool {
-    let letter = byte(text, at);
+fn order_is(word: &[u8], order: OrderAnswer) -> bool {
     match order {
-        OrderAnswer::Less => letter == b'l',
-        OrderAnswer::Equal => letter == b'e',
-        OrderAnswer::Greater => letter == b'g',
+        OrderAnswer::Less => decode::equals(word, b"less"),
+        OrderAnswer::Equal => decode::equals(word, b"equal"),
+        OrderAnswer::Greater => decode::equals(word, b"greater"),
         OrderAnswer::Refused(_) => false,
     }
 }
@@ -349,39 +327,39 @@ fn step_is(config: u64, row: &[u8], i: usize, bucket: u32) -> bool {
 
 // ---- a line of each kind, from the place after the configuration
 
-fn row_line(text: &[u8], at: usize, config: u64) -> bool {
+fn row_line(line: &[u8], at: usize, config: u64) -> bool {
     let mut top = [0u32; 384];
     let mut blocks = [0u64; 8320];
-    let a = filter_at(text, at, config, &mut top, &mut blocks);
+    let a = filter_at(line, at, config, &mut top, &mut blocks);
     let made = a.made;
-    has_row(text, a.next, made, &top, &blocks)
+    ends(line, past_row(line, a.next, made, &top, &blocks))
 }
 
-fn toggle_line(text: &[u8], at: usize, config: u64) -> bool {
+fn toggle_line(line: &[u8], at: usize, config: u64) -> bool {
     let mut top = [0u32; 384];
     let mut blocks = [0u64; 8320];
-    let a = filter_at(text, at, config, &mut top, &mut blocks);
+    let a = filter_at(line, at, config, &mut top, &mut blocks);
     let made = a.made;
-    let b = toggled_at(text, a.next, made, &mut top, &mut blocks);
+    let b = toggled_at(line, a.next, made, &mut top, &mut blocks);
     let made = b.made;
-    has_row(text, b.next, made, &top, &blocks)
+    ends(line, past_row(line, b.next, made, &top, &blocks))
 }
 
-fn difference_line(text: &[u8], at: usize, config: u64) -> bool {
+fn difference_line(line: &[u8], at: usize, config: u64) -> bool {
     let mut top = [0u32; 384];
     let mut blocks = [0u64; 8320];
     let mut top2 = [0u32; 384];
     let mut blocks2 = [0u64; 8320];
-    let a = filter_at(text, at, config, &mut top, &mut blocks);
-    let b = filter_at(text, a.next, config, &mut top2, &mut blocks2);
+    let a = filter_at(line, at, config, &mut top, &mut blocks);
+    let b = filter_at(line, a.next, config, &mut top2, &mut blocks2);
     let made = a.made;
     let made2 = b.made;
-    differs(text, b.next, made, &top, &blocks, made2, &top2, &blocks2)
+    differs(line, b.next, made, &top, &blocks, made2, &top2, &blocks2)
 }
 
 // Whether two filters have the difference at a place, and its counts.
 fn differs(
-    text: &[u8],
+    line: &[u8],
     at: usize,
     made: Made,
     top: &[u32],
@@ -398,12 +376,13 @@ fn differs(
     };
     let exact = counts::exact_difference(f, top, blocks, g, top2, blocks2);
     let limited = counts::limited_difference(f, top, blocks, g, top2, blocks2);
-    has_difference(text, at, f, top, blocks, g, top2, blocks2)
-        && counts_are(text, past(text, at, b' '), exact, limited)
+    let next = past_difference(line, at, f, top, blocks, g, top2, blocks2);
+    counts_are(line, next, exact, limited)
 }
 
-fn has_difference(
-    text: &[u8],
+// The place after the row that a line gives; lost, where the difference has another.
+fn past_difference(
+    line: &[u8],
     at: usize,
     f: Filter,
     top: &[u32],
@@ -411,7 +390,7 @@ fn has_difference(
     g: Filter,
     top2: &[u32],
     blocks2: &[u64],
-) -> bool {
+) -> usize {
     let mut to_top = [0u32; 384];
     let mut to_blocks = [0u64; 8320];
     let made = diff_count::symmetric_difference(
@@ -424,22 +403,22 @@ fn has_difference(
         &mut to_top,
         &mut to_blocks,
     );
-    has_row(text, at, made, &to_top, &to_blocks)
+    past_row(line, at, made, &to_top, &to_blocks)
 }
 
-fn order_line(text: &[u8], at: usize, config: u64) -> bool {
+fn order_line(line: &[u8], at: usize, config: u64) -> bool {
     let mut top = [0u32; 384];
     let mut blocks = [0u64; 8320];
     let mut top2 = [0u32; 384];
     let mut blocks2 = [0u64; 8320];
-    let mask = number(text, at);
-    let size = number(text, mask.next);
-    let a = filter_at(text, size.next, config, &mut top, &mut blocks);
-    let b = filter_at(text, a.next, config, &mut top2, &mut blocks2);
+    let mask = number(line, at);
+    let size = number(line, mask.next);
+    let a = filter_at(line, size.next, config, &mut top, &mut blocks);
+    let b = filter_at(line, a.next, config, &mut top2, &mut blocks2);
     let made = a.made;
     let made2 = b.made;
     ordered(
-        text,
+        line,
         b.next,
         made,
         &top,
@@ -454,7 +433,7 @@ fn order_line(text: &[u8], at: usize, config: u64) -> bool {
 
 // Whether two filters have the order at a place, and so their rows.
 fn ordered(
-    text: &[u8],
+    line: &[u8],
     at: usize,
     made: Made,
     top: &[u32],
@@ -473,18 +452,19 @@ fn ordered(
     };
     let order = masked::cmp_masked(f, top, blocks, g, top2, blocks2, mask, size);
     let of_rows = order_of_rows(f, top, blocks, g, top2, blocks2, mask, size);
-    order_is(text, at, order) && order_is(text, at, of_rows)
+    let told = word(line, at);
+    order_is(told, order) && order_is(told, of_rows) && ends(line, past(at, told))
 }
 
-fn key_line(text: &[u8], at: usize, config: u64) -> bool {
+fn key_line(line: &[u8], at: usize, config: u64) -> bool {
     let mut top = [0u32; 384];
     let mut blocks = [0u64; 8320];
-    let mask = number(text, at);
-    let size = number(text, mask.next);
-    let a = filter_at(text, size.next, config, &mut top, &mut blocks);
+    let mask = number(line, at);
+    let size = number(line, mask.next);
+    let a = filter_at(line, size.next, config, &mut top, &mut blocks);
     let made = a.made;
     key_is(
-        text,
+        line,
         a.next,
         made,
         &top,
@@ -496,7 +476,7 @@ fn key_line(text: &[u8], at: usize, config: u64) -> bool {
 
 // Whether a filter has the key at a place.
 fn key_is(
-    text: &[u8],
+    line: &[u8],
     at: usize,
     made: Made,
     top: &[u32],
@@ -507,28 +487,29 @@ fn key_is(
     let Made::Ready(f) = made else {
         return false;
     };
+    let key = number(line, at);
     match masked::masked_sort_key(f, top, blocks, mask, size) {
-        KeyAnswer::Key(k) => k == number(text, at).value,
+        KeyAnswer::Key(k) => k == key.value && ends(line, key.next),
         KeyAnswer::Refused(_) => false,
     }
 }
 
-fn count_line(text: &[u8], at: usize, config: u64) -> bool {
+fn count_line(line: &[u8], at: usize, config: u64) -> bool {
     let mut top = [0u32; 384];
     let mut blocks = [0u64; 8320];
-    let a = filter_at(text, at, config, &mut top, &mut blocks);
+    let a = filter_at(line, at, config, &mut top, &mut blocks);
     let made = a.made;
-    counted(text, a.next, made, &top, &blocks)
+    counted(line, a.next, made, &top, &blocks)
 }
 
 // Whether a filter has the counts at a place, and its row as many buckets.
-fn counted(text: &[u8], at: usize, made: Made, top: &[u32], blocks: &[u64]) -> bool {
+fn counted(line: &[u8], at: usize, made: Made, top: &[u32], blocks: &[u64]) -> bool {
     let Made::Ready(f) = made else {
         return false;
     };
     let exact = counts::exact_count(f, top, blocks);
     let limited = counts::limited_count(f, top, blocks);
-    counts_are(text, at, exact, limited) && opened(f, top, blocks) as u64 == number(text, at).value
+    counts_are(line, at, exact, limited) && opened(f, top, blocks) as u64 == number(line, at).value
 }
 
 struct Building {
@@ -545,14 +526,14 @@ fn pushed(built: Built, pending: &mut [u32], bits: &mut [u64], list: &[u32]) -> 
 
 // A builder after the list that a line gives was pushed.
 fn pushed_at(
-    text: &[u8],
+    line: &[u8],
     at: usize,
     built: Built,
     pending: &mut [u32],
     bits: &mut [u64],
 ) -> Building {
     let mut list = [0u32; 2000];
-    let part = buckets(text, at, &mut list);
+    let part = buckets(line, at, &mut list);
     let built = pushed(built, pending, bits, first_cells(&list, part.count));
     Building {
         built,
@@ -580,66 +561,81 @@ fn finished(
     }
 }
 
-fn build_line(text: &[u8], at: usize, config: u64) -> bool {
+fn build_line(line: &[u8], at: usize, config: u64) -> bool {
     let mut pending = [0u32; 768];
     let mut bits = [0u64; 8320];
-    let split = number(text, at);
+    let split = number(line, at);
     let built = builder::new(config, split.value as usize, &mut pending, &mut bits);
-    let a = pushed_at(text, split.next, built, &mut pending, &mut bits);
+    let a = pushed_at(line, split.next, built, &mut pending, &mut bits);
     let built = a.built;
-    let to = number(text, a.next);
+    let to = number(line, a.next);
     let built = raised(built, &pending, &bits, to.value as usize);
-    let b = pushed_at(text, to.next, built, &mut pending, &mut bits);
+    let b = pushed_at(line, to.next, built, &mut pending, &mut bits);
     let built = b.built;
-    builds(text, b.next, built, &pending, &bits)
+    builds(line, b.next, built, &pending, &bits)
 }
 
-fn builds(text: &[u8], at: usize, built: Built, pending: &[u32], bits: &[u64]) -> bool {
+fn builds(line: &[u8], at: usize, built: Built, pending: &[u32], bits: &[u64]) -> bool {
     let mut top = [0u32; 384];
     let mut blocks = [0u64; 8320];
     let made = finished(built, pending, bits, &mut top, &mut blocks);
-    has_row(text, at, made, &top, &blocks)
+    ends(line, past_row(line, at, made, &top, &blocks))
 }
 
-fn iterate_line(text: &[u8], at: usize, config: u64) -> bool {
+fn iterate_line(line: &[u8], at: usize, config: u64) -> bool {
     let mut bytes = [0u8; 68050];
     let mut list = [0u32; 2000];
-    let a = row(text, at, &mut bytes);
-    let b = buckets(text, a.next, &mut list);
+    let a = row(line, at, &mut bytes);
+    let b = buckets(line, a.next, &mut list);
     steps_are(
         config,
         first_bytes(&bytes, a.count),
         first_cells(&list, b.count),
     )
+        && ends(line, b.next)
 }
 
 // ---- the list
 
-// The kind of a line by its word's first letter, 8 for a word that none has.
-fn kind_of(letter: u8) -> usize {
-    match letter {
-        b'r' => 0,
-        b't' => 1,
-        b'd' => 2,
-        b'o' => 3,
-        b'k' => 4,
-        b'c' => 5,
-        b'b' => 6,
-        b'i' => 7,
-        _ => 8,
+// The kind of a line by its first word, 8 for a word that is none.
+fn kind_of(word: &[u8]) -> usize {
+    if decode::equals(word, b"row") {
+        return 0;
     }
+    if decode::equals(word, b"toggle") {
+        return 1;
+    }
+    if decode::equals(word, b"difference") {
+        return 2;
+    }
+    if decode::equals(word, b"order") {
+        return 3;
+    }
+    if decode::equals(word, b"key") {
+        return 4;
+    }
+    if decode::equals(word, b"count") {
+        return 5;
+    }
+    if decode::equals(word, b"build") {
+        return 6;
+    }
+    if decode::equals(word, b"iterate") {
+        return 7;
+    }
+    8
 }
 
-fn answered(kind: usize, text: &[u8], at: usize, config: u64) -> bool {
+fn answered(kind: usize, line: &[u8], at: usize, config: u64) -> bool {
     match kind {
-        0 => row_line(text, at, config),
-        1 => toggle_line(text, at, config),
-        2 => difference_line(text, at, config),
-        3 => order_line(text, at, config),
-        4 => key_line(text, at, config),
-        5 => count_line(text, at, config),
-        6 => build_line(text, at, config),
-        7 => iterate_line(text, at, config),
+        0 => row_line(line, at, config),
+        1 => toggle_line(line, at, config),
+        2 => difference_line(line, at, config),
+        3 => order_line(line, at, config),
+        4 => key_line(line, at, config),
+        5 => count_line(line, at, config),
+        6 => build_line(line, at, config),
+        7 => iterate_line(line, at, config),
         _ => false,
     }
 }
@@ -663,13 +659,14 @@ fn count(counters: &mut [u64; 25], i: usize) {
     }
 }
 
-// Asks what the line at a place holds.
-fn ask(text: &[u8], at: usize, lines: &mut [u64; 25], others: &mut [u64; 25]) {
-    let kind = kind_of(byte(text, at));
-    let config = number(text, past(text, at, b' '));
+// Asks what a line holds.
+fn ask(line: &[u8], lines: &mut [u64; 25], others: &mut [u64; 25]) {
+    let told = word(line, 0);
+    let kind = kind_of(told);
+    let config = number(line, past(0, told));
     let counter = counter_of(kind, config.value);
     count(lines, counter);
-    if !answered(kind, text, config.next, config.value) {
+    if !answered(kind, line, config.next, config.value) {
         count(others, counter);
     }
 }
@@ -681,8 +678,9 @@ fn ask_all(text: &[u8], lines: &mut [u64; 25], others: &mut [u64; 25]) {
         if text.len() <= at {
             return;
         }
-        ask(text, at, lines, others);
-        at = past(text, at, b'\n');
+        let line = until(text, at, b'\n');
+        ask(line, lines, others);
+        at = past(at, line);
         left -= 1;
     }
 }

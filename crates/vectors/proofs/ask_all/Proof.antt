@@ -16,6 +16,9 @@ loop-holds c = search needs
 returns : tie.Need-returns Inv-loop μ-loop
 returns c = search needs
 
+until-requires : tie.Need-until-requires Inv-loop μ-loop
+until-requires c κs = search needs
+
 ask-requires : tie.Need-ask-requires Inv-loop μ-loop
 ask-requires c κs = search needs
 
@@ -42,6 +45,7 @@ ask-all-spec =
     μ-loop
     loop-holds
     returns
+    until-requires
     ask-requires
     past-requires
     sub-left

@@ -7,10 +7,10 @@ use Rattle.vectors.proofs.buckets.Statement.{statement}
 use Rattle.vectors.proofs.buckets.Tie as tie
 
 abbrev Inv-loop : tie.InvT-loop
-Inv-loop text at to₀ listed next₀ i₀ to next i = length to ≡ length to₀
+Inv-loop line at to₀ listed next₀ i₀ to next i = length to ≡ length to₀
 
 abbrev μ-loop : tie.MeasureT-loop
-μ-loop text at to₀ listed next₀ i₀ to next i = length to₀ - i
+μ-loop line at to₀ listed next₀ i₀ to next i = length to₀ - i
 
 number-requires : tie.Need-number-requires Inv-loop μ-loop
 number-requires c κs = search needs
@@ -26,6 +26,15 @@ returns c = search needs
 
 number-requires-2 : tie.Need-number-requires-2 Inv-loop μ-loop
 number-requires-2 c κs = search needs
+
+no-part-requires : tie.Need-no-part-requires Inv-loop μ-loop
+no-part-requires c κs = search needs
+
+same-length-2 : tie.Need-same-length-2 Inv-loop μ-loop
+same-length-2 c = search needs
+
+returns-2 : tie.Need-returns-2 Inv-loop μ-loop
+returns-2 c = search needs
 
 cast-to : tie.Need-cast-to Inv-loop μ-loop
 cast-to c = search needs
@@ -45,11 +54,14 @@ loop-less c = search needs
 loop-again : tie.Need-loop-again Inv-loop μ-loop
 loop-again c = search needs
 
-same-length-2 : tie.Need-same-length-2 Inv-loop μ-loop
-same-length-2 c = search needs
+no-part-requires-2 : tie.Need-no-part-requires-2 Inv-loop μ-loop
+no-part-requires-2 c κs = search needs
 
-returns-2 : tie.Need-returns-2 Inv-loop μ-loop
-returns-2 c = search needs
+same-length-3 : tie.Need-same-length-3 Inv-loop μ-loop
+same-length-3 c = search needs
+
+returns-3 : tie.Need-returns-3 Inv-loop μ-loop
+returns-3 c = search needs
 
 pub buckets-spec : {M : Type 1} → statement M
 buckets-spec =
@@ -62,11 +74,15 @@ buckets-spec =
     same-length
     returns
     number-requires-2
+    no-part-requires
+    same-length-2
+    returns-2
     cast-to
     mul-to
     slice-write-to
     add-i
     loop-less
     loop-again
-    same-length-2
-    returns-2)
+    no-part-requires-2
+    same-length-3
+    returns-3)
