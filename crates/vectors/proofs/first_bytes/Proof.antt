@@ -8,11 +8,5 @@ use Rattle.vectors.proofs.first_bytes.Tie as tie
 slice-aggregate-result : tie.Need-slice-aggregate-result
 slice-aggregate-result c = sym (length-take-le (c .before .before .args .n) (c .before .before .args .bytes .now) (c .before .if1 .taken))
 
-returns : tie.Need-returns
-returns c = search needs
-
-returns-2 : tie.Need-returns-2
-returns-2 c = search needs
-
 pub first-bytes-spec : {M : Type 1} → statement M
-first-bytes-spec = tie.close (tie.spec slice-aggregate-result returns returns-2)
+first-bytes-spec = tie.close (tie.spec slice-aggregate-result (λ c. search needs) (λ c. search needs))
