@@ -6,7 +6,9 @@ use Rattle.row_tour.proofs.opened.Statement.{statement}
 use Rattle.row_tour.proofs.opened.Tie as tie
 
 slice-aggregate-open : tie.Need-slice-aggregate-open
-slice-aggregate-open c = sym (length-take-le (c .before .before .before .args .n) (c .before .before .before .args .bytes .now) (c .before .if1 .left))
+slice-aggregate-open c =
+    let a = c .before .before .before .args in
+    sym (length-take-le (a .n) (a .bytes .now) (c .before .if1 .left))
 
 pub opened-spec : {M : Type 1} → statement M
 opened-spec =
