@@ -3,18 +3,19 @@ use mathlib.Core.Path.{_≡_, refl, sym, ap, _∙_, subst, subst₂}
 use mathlib.Core.Bool.{Bool, true, false, cond}
 use mathlib.Core.Logic.{_↔_}
 use mathlib.Core.List.{List, [], _∷_, _++_}
-use Prim.Native.Nat.{ℕ, _≤_}
+use Prim.Native.Nat.{ℕ, _*_, _≤_, _<_}
 use native.Mathlib.Omega.{arith}
 use borrow.Author.Tests.{le-leb}
 use lib.Dec.{leb}
 use lib.ListN.{length, take, drop}
 use lib.Seq.{take-at}
 use Rattle.sets.specs.Sets.{Agree, Set}
-use Rattle.sets.specs.Configurations.{Config, W, blocks, known, configAt}
+use Rattle.sets.specs.Configurations.{Config, Sound, W, blocks, known, configAt}
 use Rattle.sets.specs.Filter.{FilterRecord, exactCountAt, filled, recordOf, topSlice, bitSlice}
 use Rattle.sets.specs.Row.{isRow, row, shownRow}
 use Rattle.sets.specs.Refusals.{Test, Verdict, taken, refused, answer, areasLent, filterLent, firstFailing, holdsRow, isRowOf}
 use Rattle.sets.proofs.Areas.{holds-stands, stands-slices}
+use Rattle.sets.proofs.Beginnings.{Unnoticed, beginning-iff, cut-row, largest, largest-count}
 use Rattle.sets.proofs.Bytes.{Bytes}
 use Rattle.sets.proofs.Configurations.{line-at, number-at}
 use Rattle.sets.proofs.Laws.{members-same}
@@ -213,6 +214,27 @@ open-iff n bs d = (
       (p .0, row-iff (configAt n) (line-at n .sound) bs d .0 (p .1)),
   λ t. (exactCountAt (configAt n) (t .1 .0), ap (openOf n) (sym (t .1 .2)) ∙ open-set n (t .0) (t .1 .0)),
 )
+
+-- The row of a set, cut after its first k bytes, is opened exactly where no cut can be noticed: nothing is missing, or whole entries are
+-- left and fewer than M of them.
+pub open-beginning : (n : ℕ) → known n ≡ true → (S : Set) (k : ℕ) → k ≤ length (row (configAt n) S)
+    → ((size : ℕ) × (openOf n (take k (row (configAt n) S)) ≡ opens.Size size)) ↔ Unnoticed (configAt n) S k
+unfolding openOf
+open-beginning n e S k h =
+    let c : Config = configAt n in
+    let bs : List ℕ = take k (row c S) in
+    let begins = beginning-iff c (line-at n .sound) S k h in (
+      λ t. begins .0 (row-taken n bs (sized (rowVerdict n bs) _ (t .0) (t .1)) .1),
+      λ u. (exactCountAt c (shownRow c bs), rw (row-takes n bs e (begins .1 u))),
+    )
+
+-- Cut after j entries it opens as the row of the j largest buckets.
+pub open-cut : (n : ℕ) → known n ≡ true → (S : Set) (j : ℕ) → j < configAt n .M → j * configAt n .entry ≤ length (row (configAt n) S)
+    → openOf n (take (j * configAt n .entry) (row (configAt n) S)) ≡ opens.Size j
+open-cut n e S j m h =
+    let c : Config = configAt n in
+    let s : Sound c = line-at n .sound in
+    ap (openOf n) (cut-row c s S j m h) ∙ open-set n e (largest c j S) ∙ ap opens.Size (largest-count c s S j m h)
 
 -- It is read exactly where the slices have room besides.
 pub read-iff : (n : ℕ) (bs top bits : List ℕ) → Bytes bs → {r : Made} {t b : List ℕ} → Reads n bs top bits r t b

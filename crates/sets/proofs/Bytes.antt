@@ -5,7 +5,7 @@ use Prim.Native.Nat.{ℕ, zero, suc, _+_, _*_, _/_, _%_, _^_, _≤_, _<_}
 use native.Mathlib.Nat.{suc-mul, zero-mul, lt-of-lt-of-le}
 use native.Mathlib.Omega.{arith}
 use lib.ListN.{length, take, drop, length-append, length-take, length-drop}
-use lib.Seq.{length-take-le, take-add, take-at, drop-at}
+use lib.Seq.{length-take-le, take-add, take-append-add, take-at, drop-at}
 use lib.Pow.{pow-add, pow-mono}
 use Rattle.sets.specs.Sets.{Below}
 use Rattle.sets.specs.Row.{bytes, bytesOf, little, numbers}
@@ -89,3 +89,13 @@ bytesOf-numbers w (suc n) bs h l =
     (bytesOf-numbers w n (drop w bs) (below-drop w bs 256 h) (omega (arith, length-drop w bs)))
     ∙ sym (take-add w (n * w) bs)
     ∙ ap (λ (x : ℕ). take x bs) (sym e)
+
+-- the first ones
+pub take-bytesOf : (w j : ℕ) (vs tail : List ℕ) → j ≤ length vs → take (j * w) (bytesOf w vs ++ tail) ≡ bytesOf w (take j vs)
+take-bytesOf w zero vs tail h = rw (zero-mul w)
+take-bytesOf w (suc j) [] tail h = absurd (omega arith)
+take-bytesOf w (suc j) (v ∷ vs) tail h =
+    let e : suc j * w ≡ length (bytes w v) + j * w = omega (arith, suc-mul j w, length-bytes w v) in
+    ap₂ (λ (n : ℕ) (l : List ℕ). take n l) e (append-assoc (bytes w v) (bytesOf w vs) tail)
+    ∙ take-append-add (bytes w v) (bytesOf w vs ++ tail) (j * w)
+    ∙ ap (_++_ (bytes w v)) (take-bytesOf w j vs tail (omega arith))

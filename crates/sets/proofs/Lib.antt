@@ -18,5 +18,6 @@ pub mod Keys
 pub mod Bytes
 pub mod Rows
 pub mod Reading
+pub mod Beginnings
 pub mod Reader
 pub mod Edges

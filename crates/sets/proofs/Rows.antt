@@ -79,7 +79,7 @@ abbrev pub edgeOf : Config → Set → ℕ
 edgeOf c S = boundary (c .M) (W c) S
 
 module _ (c : Config) (S : Set) where
-  row-lengths : length (row c S) ≡ length (topsOf c S) * c .entry + cond (eqb (edgeOf c S) 0) 0 (1 + 8 * blocksFor (edgeOf c S))
+  pub row-lengths : length (row c S) ≡ length (topsOf c S) * c .entry + cond (eqb (edgeOf c S) 0) 0 (1 + 8 * blocksFor (edgeOf c S))
   unfolding row
   row-lengths =
       length-append (bytesOf (c .entry) (topsOf c S)) (bitPart (edgeOf c S) S)
@@ -155,7 +155,7 @@ module _ (c : Config) (s : Sound c) (S : Set) where
       let q : length (row c S) / c .entry ≡ c .M + k / c .entry = ap (λ (x : ℕ). x / c .entry) l ∙ mul-add-div-right w (c .M) k in
       omega arith)
 
-  tops-fit : Below (2 ^ (8 * c .entry)) (topsOf c S)
+  pub tops-fit : Below (2 ^ (8 * c .entry)) (topsOf c S)
   tops-fit i h = omega (arith, falls-room (topsOf c S) (W c) i (tops-split .falling) h, W-entry c s)
 
   pub row-entries : rowEntries c (row c S) ≡ topsOf c S
