@@ -2,6 +2,7 @@
 //! A configuration is named by its number, 7, 10 or 13.
 #![warn(dead_code, unused)]
 
+use crate::config::HashToBucketLookup;
 use crate::diff_count::*;
 
 /// A filter: of the buckets listed, each flipped once, or read from a row.
@@ -91,6 +92,13 @@ fn raise<C: GeoConfig<Diff>>(builder: &mut GeoDiffCountBuilder<C>, to: usize) {
         builder.split = to;
         builder.blocks.resize(to.div_ceil(BITS_PER_BLOCK), Unaligned::default());
     }
+}
+
+/// `lookup` of `HashToBucketLookup`, as `hash_to_bucket` calls it. That one would first make a table of estimates
+/// too, which takes seconds.
+pub fn bucket_step(config: u32) -> impl Fn(u64) -> u32 {
+    let table = HashToBucketLookup::new(sizes(config).bits_per_level.ilog2() as usize);
+    move |hash| table.lookup(hash) as u32
 }
 
 macro_rules! by_number {
