@@ -32,7 +32,11 @@
  *   - it keeps no pointer once it has returned;
  *   - it allocates nothing and has no global state, so threads may call at the same time, each with
  *     memory of its own or with memory that all of them only read;
- *   - it calls nothing but memcpy and memset.
+ *   - it calls nothing but memcpy and memset;
+ *   - it takes at most ZAMGULEKT_STACK bytes of stack, but zamgulekt_compare_text takes up to
+ *     ZAMGULEKT_TEXT_STACK. Both figures are measured and not proved: on x86-64, for the archive as
+ *     the kit compiles it. If the dynamic linker binds memcpy or memset during the call, its own
+ *     stack is not counted.
  */
 #ifndef ZAMGULEKT_H
 #define ZAMGULEKT_H
@@ -130,6 +134,10 @@ extern "C" {
 
 /* Bytes that are always enough for the answer of zamgulekt_compare_text. */
 #define ZAMGULEKT_TEXT 322
+
+/* Bytes of stack that are enough for zamgulekt_compare_text, and for any other call. */
+#define ZAMGULEKT_TEXT_STACK 49152
+#define ZAMGULEKT_STACK 4096
 
 /* The sizes of a configuration: how much memory to lend. Refuses with 1. */
 uint8_t zamgulekt_sizes_of(uint64_t config, uint64_t sizes[ZAMGULEKT_SIZES]);
@@ -258,8 +266,9 @@ uint8_t zamgulekt_read(uint64_t config,
                        uint32_t *top, size_t top_len,
                        uint64_t *blocks, size_t blocks_len);
 
-/* The size of the set whose row this is; judges the row as zamgulekt_read does. Refuses with 1, 4,
-   2, 5. */
+/* The size of the set whose row this is; judges the row as zamgulekt_read does. A row that was cut
+   can be another set's row, and is taken: docs/MANUAL.md, "What a row cannot tell". Refuses with 1,
+   4, 2, 5. */
 uint8_t zamgulekt_open(uint64_t config, const uint8_t *row, size_t row_len, uint64_t *count);
 
 /* The order of two rows under a mask. Refuses with 1, 6, 7, then 4, 2, 5 for each row. */
@@ -298,6 +307,7 @@ uint8_t zamgulekt_step_at(const uint8_t *row, size_t row_len,
 
 /* The comparing program on memory: the bytes of its input to those of its answer, at the beginning
    of a buffer, and their length. A refusal of the input is an answer too, the line `refused N L`.
+   Takes up to ZAMGULEKT_TEXT_STACK bytes of stack: a thread that calls it needs that room.
    Refuses with 3 where the answer does not fit the buffer; ZAMGULEKT_TEXT bytes are enough. */
 uint8_t zamgulekt_compare_text(const uint8_t *input, size_t input_len,
                                uint8_t *text, size_t text_len,
