@@ -7,8 +7,12 @@ use crate::refusal::Refusal;
 
 /// The size of the set whose row this is.
 ///
+/// A row that was cut can be another set's row, and opens: if a whole number of entries is left,
+/// fewer than M. Keep the length of a row beside it.
+///
 /// ```
 /// assert_eq!(zamgulekt::open(7, &[5, 0, 0, 0])?, 2);
+/// assert_eq!(zamgulekt::open(7, &[5, 0])?, 1);
 /// # Ok::<(), zamgulekt::Refusal>(())
 /// ```
 ///

@@ -58,6 +58,13 @@ fn a_row_cut_at_24_bytes_is_refused() -> bool {
     length == 33 && opened(&to, 33) == 12 && opened(&to, 24) == 1005
 }
 
+fn a_row_cut_between_entries_is_another_row() -> bool {
+    let mut to = [9u8; 40];
+    let list = [12u32, 11, 10, 9, 8, 7, 6, 5, 4, 3, 2, 1];
+    let length = row_of(&list, &mut to);
+    length == 33 && opened(&to, 22) == 11 && opened(&to, 2) == 1 && opened(&to, 0) == 0
+}
+
 // The length of the row, its spare byte and the lowest byte of its blocks.
 fn bit_part_is(list: &[u32], length: usize, spare: u8, low: u8) -> bool {
     let mut to = [9u8; 48];
@@ -205,6 +212,7 @@ fn main() {
     tell(the_empty_row());
     tell(a_full_list_down_to_bucket_0_has_no_bit_part());
     tell(a_row_cut_at_24_bytes_is_refused());
+    tell(a_row_cut_between_entries_is_another_row());
     tell(the_thirteenth_is_a_bit());
     tell(boundaries_64_and_65());
     tell(a_short_buffer_stays());
