@@ -12,7 +12,7 @@ use borrow.Author.Tests.{le-leb, lt-leb}
 use Rattle.sets.specs.Sets.{Below, allBelow}
 use Rattle.sets.specs.Configurations.{Config, W, blocks, configAt}
 use Rattle.sets.specs.Filter.{Rises, cleared, filled}
-use Rattle.sets.specs.Refusals.{Test, Verdict, taken, refused, range, firstFailing, verdict, builderAreas, builderLent, holdAreas, isSplit}
+use Rattle.sets.specs.Refusals.{Cause, test, Test, Verdict, taken, refused, range, firstFailing, verdict, builderAreas, builderLent, holdAreas, isSplit, because}
 use Rattle.sets.specs.Refusals.{areBuckets}
 use Rattle.sets.proofs.Configurations.{entry-width, line-at, whole-blocks}
 use Rattle.sets.proofs.Tests.{all-below}
@@ -42,8 +42,8 @@ use Rattle.builder.specs.declared.Built.the-variants.{Next, Refused}
 -- ---- the last test, 2
 
 by-range : (ts : List Test) {b v : Bool} → firstFailing ts ≡ taken → b ≡ v
-    → firstFailing (ts ++ ((range, b) ∷ [])) ≡ cond v taken (refused 2)
-by-range ts {b} t e = after-taken ts ((range, b) ∷ []) t ∙ ap (λ (x : Bool). cond x taken (refused 2)) e
+    → firstFailing (ts ++ (test range b ∷ [])) ≡ cond v taken (refused (because range))
+by-range ts {b} t e = after-taken ts (test range b ∷ []) t ∙ ap (λ (x : Bool). cond x taken (refused (because range))) e
 
 module _ (n : ℕ) (s : Sizes) (e : s ≡ sizesAt n) where
   buckets-told : W (configAt n) ≡ s .buckets
@@ -65,7 +65,7 @@ zeroed-cleared n l =
     ap (λ (x : ℕ). filled (replicate x 0) n l) e
 
 module _ (n split : ℕ) (pending bits : List ℕ) where
-  new-not : (x : Refusal) (k : ℕ) → newVerdict n split pending bits ≡ refused k → x ≡ refusal k
+  new-not : (x : Refusal) (k : Cause) → newVerdict n split pending bits ≡ refused k → x ≡ refusal k
       → News n split pending bits (Refused x) pending bits
   new-not x k e q = record { answers = rw e (ap (λ (y : Refusal). Refused y) q); cells = rw e; blocks = rw e }
 
@@ -86,10 +86,10 @@ module _ (n split : ℕ) (pending bits : List ℕ) where
         subst (λ (x : Sizes). (2 * x .top ≤ length pending) × (x .blocks ≤ length bits)) (sym (sized .1))
         (areas-pass n (length pending) (length bits) (sized .0) .1, areas-pass n (length pending) (length bits) (sized .0) .2)
 
-    pub new-past : s .buckets < split → News n split pending bits (Refused (refusal 2)) pending bits
+    pub new-past : s .buckets < split → News n split pending bits (Refused (refusal (because range))) pending bits
     unfolding newVerdict
     new-past h =
-        new-not (refusal 2) 2 (by-range (builderAreas n (length pending) (length bits)) (sized .0) (split-past n s (sized .1) split h)) refl
+        new-not (refusal (because range)) (because range) (by-range (builderAreas n (length pending) (length bits)) (sized .0) (split-past n s (sized .1) split h)) refl
 
     pub new-next : {pending′ bits′ : List ℕ} → split ≤ s .buckets → pending′ ≡ zeroed 0 (2 * s .top) pending
         → bits′ ≡ zeroed 0 (s .blocks) bits
@@ -137,11 +137,11 @@ module _ (b : Builder) (pending bits : List ℕ) where
         (a .0, after-refused lent (isSplit (configOf b) split ∷ []) (a .1), a .2)
 
     module _ (s : Sizes) (q : asked ≡ sizes.Known s) where
-      pub raise-past : s .buckets < split → Refused (refusal 2) ≡ raised b pending bits split
+      pub raise-past : s .buckets < split → Refused (refusal (because range)) ≡ raised b pending bits split
       unfolding raiseVerdict raised
       raise-past h =
           refuses (λ y. Refused y) (Next (builderIn (b .config) (max (b .split) split) (b .count)))
-          (2, by-range lent (told s q .0) (split-past (b .config) s (told s q .1) split h), refl)
+          (because range, by-range lent (told s q .0) (split-past (b .config) s (told s q .1) split h), refl)
 
       pub raise-next : (to : ℕ) → split ≤ s .buckets → to ≡ max (b .split) split
           → Next (builderIn (b .config) to (b .count)) ≡ raised b pending bits split
@@ -153,7 +153,7 @@ module _ (b : Builder) (pending bits : List ℕ) where
 
   -- push
   module _ (list : List ℕ) where
-    push-not : (x : Refusal) (k : ℕ) → pushVerdict b pending bits list ≡ refused k → x ≡ refusal k
+    push-not : (x : Refusal) (k : Cause) → pushVerdict b pending bits list ≡ refused k → x ≡ refusal k
         → Pushes b pending bits list (Refused x) pending bits
     push-not x k e q =
         subst (λ (v : Verdict). PushOutcome v b pending bits list (Refused x) pending bits) (sym e)
@@ -172,9 +172,9 @@ module _ (b : Builder) (pending bits : List ℕ) where
       by-list : {v : Bool} → v ≡ allBelow (s .buckets) list → allBelow (W (configOf b)) list ≡ v
       by-list h = ap (λ (w : ℕ). allBelow w list) (buckets-told (b .config) s (told s q .1)) ∙ sym h
 
-      pub push-past : false ≡ allBelow (s .buckets) list → Pushes b pending bits list (Refused (refusal 2)) pending bits
+      pub push-past : false ≡ allBelow (s .buckets) list → Pushes b pending bits list (Refused (refusal (because range))) pending bits
       unfolding pushVerdict
-      push-past h = push-not (refusal 2) 2 (by-range lent (told s q .0) (by-list h)) refl
+      push-past h = push-not (refusal (because range)) (because range) (by-range lent (told s q .0) (by-list h)) refl
 
       pub level-fits : s .level < 64
       unfolding sizesAt

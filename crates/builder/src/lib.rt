@@ -53,7 +53,7 @@ pub fn new(config: u64, split: usize, pending: &mut [u32], bits: &mut [u64]) -> 
     match judge_builder::areas(config, pending.len(), bits.len()) {
         SizesAnswer::Known(s) => {
             if s.buckets < split {
-                return Built::Refused(Refusal { number: 2 });
+                return Built::Refused(sizes::RANGE);
             }
             bitvec::zero_cells(pending, 0, 2 * s.top);
             bitvec::zero_blocks(bits, 0, s.blocks);
@@ -81,7 +81,7 @@ impl Builder {
         match judge_builder::builder(config, stage, pending, bits) {
             SizesAnswer::Known(s) => {
                 if !judge::all_below(list, s.buckets) {
-                    return Built::Refused(Refusal { number: 2 });
+                    return Built::Refused(sizes::RANGE);
                 }
                 let next = pending::push_all(
                     pending,
@@ -114,7 +114,7 @@ impl Builder {
         match judge_builder::builder(config, stage, pending, bits) {
             SizesAnswer::Known(s) => {
                 if s.buckets < to {
-                    return Built::Refused(Refusal { number: 2 });
+                    return Built::Refused(sizes::RANGE);
                 }
                 let mut higher = stage.split;
                 if higher < to {

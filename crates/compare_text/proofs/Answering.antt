@@ -8,7 +8,7 @@ use borrow.Author.Tests.{le-leb, lt-leb}
 use lib.Dec.{leb}
 use lib.ListN.{length, take}
 use Rattle.sets.specs.Filter.{filled}
-use Rattle.sets.specs.Refusals.{Verdict, taken, refused, answer}
+use Rattle.sets.specs.Refusals.{Verdict, taken, refused, answer, because, buffer}
 use Rattle.sets.specs.Text.{compareText}
 use Rattle.sizes.specs.Sizes.{refusal}
 use Rattle.judge.proofs.Verdicts.{refuses, takes}
@@ -19,12 +19,12 @@ use Rattle.compare_text.specs.declared.TextAnswer.the-variants as texts
 
 module _ (input out : List ℕ) where
   -- 3 for the buffer is the one test
-  by-buffer : textVerdict input out ≡ cond (leb (length (compareText input)) (length out)) taken (refused 3)
+  by-buffer : textVerdict input out ≡ cond (leb (length (compareText input)) (length out)) taken (refused (because buffer))
   unfolding textVerdict
   by-buffer = refl
 
   pub fits : length (compareText input) ≤ length out → textVerdict input out ≡ taken
-  fits h = by-buffer ∙ ap (λ (b : Bool). cond b taken (refused 3)) (le-leb _ _ h)
+  fits h = by-buffer ∙ ap (λ (b : Bool). cond b taken (refused (because buffer))) (le-leb _ _ h)
 
   -- the bytes left on a verdict
   abbrev leftBy : Verdict → List ℕ
@@ -39,12 +39,12 @@ module _ (input out : List ℕ) where
     n-is : n ≡ length (compareText input)
     n-is = omega (arith, p .end, ap length e)
 
-    pub too-short : length out < n → Compares input out (texts.Refused (refusal 3)) out
+    pub too-short : length out < n → Compares input out (texts.Refused (refusal (because buffer))) out
     too-short h =
         let s : length out < length (compareText input) = omega (arith, n-is) in
-        let v : textVerdict input out ≡ refused 3 = by-buffer ∙ ap (λ (b : Bool). cond b taken (refused 3)) (lt-leb _ _ s) in
+        let v : textVerdict input out ≡ refused (because buffer) = by-buffer ∙ ap (λ (b : Bool). cond b taken (refused (because buffer))) (lt-leb _ _ s) in
         record {
-          answers = refuses (λ x. texts.Refused x) _ (3, v, refl);
+          answers = refuses (λ x. texts.Refused x) _ (because buffer, v, refl);
           bytes = ap leftBy (sym v);
         }
 

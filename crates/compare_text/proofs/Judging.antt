@@ -154,7 +154,7 @@ pub figures-asks : (f : Filter) (top bits bs : List ℕ) (g : Filter) (top2 bits
     ≡ taken → cmpVerdict f top bits g top2 bits2 (m .mask) (m .size) ≡ taken
 unfolding cmpVerdict
 figures-asks f top bits bs g top2 bits2 m p R q =
-    after-taken (inOrder 0 9 (filtersLent (recordIn f) top bits (recordIn g) top2 bits2)) (isMask (m .mask) (m .size))
+    after-taken (inOrder (filtersLent (recordIn f) top bits (recordIn g) top2 bits2)) (isMask (m .mask) (m .size))
     (both-pass f top bits g top2 bits2 (filter-pass (f .config) (tallyOf f) top bits p)
     (of-passes g top2 bits2 (shownRow (configAt (f .config)) (R .row)) (R .filter)) (sym (R .config)))
     ∙ q

@@ -188,7 +188,7 @@ pub fn compare_text(input: &[u8], out: &mut [u8]) -> TextAnswer
     let mut text = [0u8; LONGEST_ANSWER];
     let n = put_judged(&mut text, judged_input(input));
     if out.len() < n {
-        return TextAnswer::Refused(Refusal { number: 3 });
+        return TextAnswer::Refused(sizes::BUFFER);
     }
     TextAnswer::Written(encode::put(out, 0, &text[..n]))
 }

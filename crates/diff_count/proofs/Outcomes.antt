@@ -10,7 +10,7 @@ use Rattle.sets.specs.Sets.{Set, Below, none, apart, below, flips, members, all
 use Rattle.sets.specs.Words.{blockAt}
 use Rattle.sets.specs.Configurations.{Config, W, blocks, known, configAt}
 use Rattle.sets.specs.Filter.{FilterRecord, isFilter, bitsOf, boundary, topCells, bitCells}
-use Rattle.sets.specs.Refusals.{Verdict, taken, refused, verdict, filterLent, areBuckets}
+use Rattle.sets.specs.Refusals.{Cause, Verdict, taken, refused, verdict, filterLent, areBuckets, because, range}
 use Rattle.sets.proofs.Areas.{Stands, holds-stands}
 use Rattle.sets.proofs.Configurations.{line-at, number-at, whole-blocks}
 use Rattle.sets.proofs.Laws.{members-none}
@@ -36,7 +36,7 @@ use Rattle.diff_count.specs.declared.Made.the-variants.{Ready, Refused}
 -- ---- any call
 
 module _ (v : Verdict) (c : Config) (S : Set) (top bits : List ℕ) where
-  pub makes-refused : (x : Refusal) (k : ℕ) → v ≡ refused k → x ≡ refusal k → Makes v c S top bits (Refused x) top bits
+  pub makes-refused : (x : Refusal) (k : Cause) → v ≡ refused k → x ≡ refusal k → Makes v c S top bits (Refused x) top bits
   makes-refused x k e q = record { answers = rw e (ap (λ (y : Refusal). Refused y) q); tops = rw e; blocks = rw e }
 
 -- the filter of S was made
@@ -121,16 +121,16 @@ module _ (f : Filter) (top bits list : List ℕ) where
     passes = filter-pass (f .config) (tallyOf f) top bits (told .0)
 
     -- 2 decides
-    by-list : (v : Bool) → v ≡ allBelow (s .buckets) list → toggleVerdict f top bits list ≡ cond v taken (refused 2)
+    by-list : (v : Bool) → v ≡ allBelow (s .buckets) list → toggleVerdict f top bits list ≡ cond v taken (refused (because range))
     unfolding toggleVerdict sizesAt
     by-list v h =
         after-taken (filterLent (recordIn f) top bits) (areBuckets (configAt (f .config)) list ∷ []) (told .0)
-        ∙ ap (λ (b : Bool). cond b taken (refused 2)) (ap (λ (x : Sizes). allBelow (x .buckets) list) (sym (told .1)) ∙ sym h)
+        ∙ ap (λ (b : Bool). cond b taken (refused (because range))) (ap (λ (x : Sizes). allBelow (x .buckets) list) (sym (told .1)) ∙ sym h)
 
-    pub toggle-past : false ≡ allBelow (s .buckets) list → Toggles f top bits list (Refused (refusal 2)) top bits
+    pub toggle-past : false ≡ allBelow (s .buckets) list → Toggles f top bits list (Refused (refusal (because range))) top bits
     toggle-past h =
         makes-refused (toggleVerdict f top bits list) (configAt (f .config)) (flips list (shownBy f top bits)) top bits
-        (refusal 2) 2 (by-list false h) refl
+        (refusal (because range)) (because range) (by-list false h) refl
 
     pub toggle-asks : true ≡ allBelow (s .buckets) list
         → Room (s .top) (s .blocks) top bits

@@ -8,7 +8,7 @@ use lib.ListN.{length, getD, take}
 use Rattle.sets.specs.Sets.{Agree, Set}
 use Rattle.sets.specs.Configurations.{Config, W, blocksFor, configAt, positionBits, windowBlocks}
 use Rattle.sets.specs.Filter.{Holds, isFilter, shown}
-use Rattle.sets.specs.Refusals.{taken, refused, verdict, filterLent, filtersLent}
+use Rattle.sets.specs.Refusals.{taken, refused, verdict, filterLent, filtersLent, Cause}
 use Rattle.sets.proofs.Canon.{holds-canon}
 use Rattle.sets.proofs.Configurations.{line-at, whole-blocks}
 use Rattle.sets.proofs.Laws.{falls-low, members-length}
@@ -94,7 +94,7 @@ pub record One (f : Filter) (top bits : List ℕ) (s : Sizes) : Type 0 where
 -- or a refusal
 pub one-not : (f : Filter) (top bits : List ℕ) (x : Refusal) {r : SizesAnswer} → r ≡ filterOf (f .config) (tallyOf f) top bits
     → r ≡ sizes.Refused x
-    → (k : ℕ) × (verdict (filterLent (recordIn f) top bits) ≡ refused k) × (x ≡ refusal k)
+    → (k : Cause) × (verdict (filterLent (recordIn f) top bits) ≡ refused k) × (x ≡ refusal k)
 one-not f top bits x e q = filter-refused (f .config) (tallyOf f) top bits x (sym e ∙ q)
 
 fits-at : (n : ℕ) (t : Tally) (top bits : List ℕ) (s : Sizes) → s ≡ sizesAt n → Passes n t top bits
@@ -130,7 +130,7 @@ two-lent f top bits g top2 bits2 e =
 
 module _ (f : Filter) (top bits : List ℕ) (g : Filter) (top2 bits2 : List ℕ) where
   pub two-not : (x : Refusal) {r : SizesAnswer} → r ≡ filtersOf f top bits g top2 bits2 → r ≡ sizes.Refused x
-      → (k : ℕ) × (verdict (filtersLent (recordIn f) top bits (recordIn g) top2 bits2) ≡ refused k) × (x ≡ refusal k)
+      → (k : Cause) × (verdict (filtersLent (recordIn f) top bits (recordIn g) top2 bits2) ≡ refused k) × (x ≡ refusal k)
   unfolding filtersOf
   two-not x e q = judged-refused (f .config) (verdict (filtersLent (recordIn f) top bits (recordIn g) top2 bits2)) x (sym e ∙ q)
 

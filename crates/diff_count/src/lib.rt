@@ -242,7 +242,7 @@ impl Filter {
         match judge::filter(config, tally, top, blocks) {
             SizesAnswer::Known(s) => {
                 if !judge::all_below(list, s.buckets) {
-                    return Made::Refused(Refusal { number: 2 });
+                    return Made::Refused(sizes::RANGE);
                 }
                 let next = flip_all(top, blocks, tally, s.top, s.blocks, list);
                 Made::Ready(Filter {

@@ -9,8 +9,8 @@ use denote.Ref.{RefT, now}
 use native.Mathlib.Omega.{arith}
 use Rattle.sets.specs.Sets.{Set}
 use Rattle.sets.specs.Configurations.{Config}
-use Rattle.sets.specs.Refusals.{Reason, Test, Verdict, taken, refused, answer, number, firstFailing, inOrder, verdict, configuration, room}
-use Rattle.sets.specs.Refusals.{soundness, likeness, maskSize, maskBits, rowLength, range, fall, blockCount, spare, high, slot, buffer}
+use Rattle.sets.specs.Refusals.{Cause, Test, Verdict, taken, refused, answer, verdict}
+use Rattle.sets.proofs.Verdicts.{never-zero}
 use Rattle.diff_count.specs.Making.{Makes}
 use Rattle.diff_count.specs.declared.Made.{Made}
 use Rattle.diff_count.proofs.Theorems.{makes-once}
@@ -94,42 +94,15 @@ pushed-once b pending bits list p p′ q q′ u w =
 
 -- ---- 0
 
-numbered : (x : Reason) → 0 < number x
-numbered configuration = omega arith
-numbered room = omega arith
-numbered soundness = omega arith
-numbered likeness = omega arith
-numbered maskSize = omega arith
-numbered maskBits = omega arith
-numbered rowLength = omega arith
-numbered range = omega arith
-numbered fall = omega arith
-numbered blockCount = omega arith
-numbered spare = omega arith
-numbered high = omega arith
-numbered slot = omega arith
-numbered buffer = omega arith
-
-pub never-zero : (ts : List Test) (n : ℕ) → verdict ts ≡ refused n → 0 < n
-never-zero ts n q = go (inOrder 0 9 ts) q
-  where
-    by : (t : Test) (rest : List Test) (b : Bool) → (firstFailing rest ≡ refused n → 0 < n)
-        → cond b (firstFailing rest) (refused (number (t .0))) ≡ refused n → 0 < n
-    by t rest true h e = h e
-    by t rest false h e = let z : number (t .0) ≡ n = cc in omega (arith, numbered (t .0))
-
-    go : (us : List Test) → firstFailing us ≡ refused n → 0 < n
-    go [] e = absurd (let z : _≡_ {A = ℕ} 0 1 = cc in omega arith)
-    go (t ∷ rest) e = by t rest (t .1) (go rest) e
-
 -- of every call whose answer is by a verdict: it tells 0 only where it was taken
-pub zero-taken : {A : Type 0} (told : A → Told) (refuse : ℕ → A) (a : A) (ts : List Test) → ((n : ℕ) → told (refuse n) ≡ refuses n)
+pub zero-taken : {A : Type 0} (told : A → Told) (refuse : Cause → A) (a : A) (ts : List Test)
+    → ((k : Cause) → told (refuse k) ≡ refuses (k .number))
     → numberOf (told (answer (verdict ts) refuse a)) ≡ 0 → verdict ts ≡ taken
 zero-taken told refuse a ts h z = go (verdict ts) refl z
   where
     go : (v : Verdict) → verdict ts ≡ v → numberOf (told (answer v refuse a)) ≡ 0 → verdict ts ≡ taken
     go taken e q = e
-    go (refused n) e q = let m : n ≡ 0 = sym (ap numberOf (h n)) ∙ q in absurd (omega (arith, never-zero ts n e))
+    go (refused k) e q = let m : k .number ≡ 0 = sym (ap numberOf (h k)) ∙ q in absurd (omega (arith, never-zero ts k e))
 
 -- ---- the reader: its cells, beside the row that it holds
 

@@ -88,7 +88,7 @@ module _ (f : Filter) (top bits : List ℕ) (g : Filter) (top2 bits2 : List ℕ)
       × Passes (g .config) (tallyOf g) top2 bits2 × (f .config ≡ g .config)
   unfolding cmpVerdict
   all-passed =
-      let p = all-pass (inOrder 0 9 (filtersLent (recordIn f) top bits (recordIn g) top2 bits2)) (isMask mask size) v in
+      let p = all-pass (inOrder (filtersLent (recordIn f) top bits (recordIn g) top2 bits2)) (isMask mask size) v in
       let w =
       two-pass (f .config) (tallyOf f) top bits (g .config) (tallyOf g) top2 bits2 (length top) (length bits)
       (two-alone (f .config) (tallyOf f) top bits (g .config) (tallyOf g) top2 bits2 ∙ p .0) in

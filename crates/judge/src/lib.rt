@@ -121,7 +121,7 @@ pub fn areas(config: u64, top: usize, blocks: usize) -> SizesAnswer
     match sizes::sizes_of(config) {
         SizesAnswer::Known(s) => {
             if !has_room(s, top, blocks) {
-                return SizesAnswer::Refused(Refusal { number: 3 });
+                return SizesAnswer::Refused(sizes::ROOM);
             }
             SizesAnswer::Known(s)
         }
@@ -136,7 +136,7 @@ pub fn filter(config: u64, tally: Tally, top: &[u32], blocks: &[u64]) -> SizesAn
     match areas(config, top.len(), blocks.len()) {
         SizesAnswer::Known(s) => {
             if !is_filter(top, blocks, tally, s.top, s.blocks) {
-                return SizesAnswer::Refused(Refusal { number: 8 });
+                return SizesAnswer::Refused(sizes::SOUNDNESS);
             }
             SizesAnswer::Known(s)
         }
@@ -162,28 +162,28 @@ pub fn two_filters(
         config2 tally2 (now (top2 .entry)) (now (blocks2 .entry)) «to_top» «to_blocks» ⌝ }
 {
     let SizesAnswer::Known(s) = sizes::sizes_of(config) else {
-        return SizesAnswer::Refused(Refusal { number: 1 });
+        return SizesAnswer::Refused(sizes::CONFIGURATION);
     };
     let SizesAnswer::Known(o) = sizes::sizes_of(config2) else {
-        return SizesAnswer::Refused(Refusal { number: 1 });
+        return SizesAnswer::Refused(sizes::CONFIGURATION);
     };
     if !has_room(s, top.len(), blocks.len()) {
-        return SizesAnswer::Refused(Refusal { number: 3 });
+        return SizesAnswer::Refused(sizes::ROOM);
     }
     if !has_room(o, top2.len(), blocks2.len()) {
-        return SizesAnswer::Refused(Refusal { number: 3 });
+        return SizesAnswer::Refused(sizes::ROOM);
     }
     if !has_room(s, to_top, to_blocks) {
-        return SizesAnswer::Refused(Refusal { number: 3 });
+        return SizesAnswer::Refused(sizes::ROOM);
     }
     if !is_filter(top, blocks, tally, s.top, s.blocks) {
-        return SizesAnswer::Refused(Refusal { number: 8 });
+        return SizesAnswer::Refused(sizes::SOUNDNESS);
     }
     if !is_filter(top2, blocks2, tally2, o.top, o.blocks) {
-        return SizesAnswer::Refused(Refusal { number: 8 });
+        return SizesAnswer::Refused(sizes::SOUNDNESS);
     }
     if config != config2 {
-        return SizesAnswer::Refused(Refusal { number: 9 });
+        return SizesAnswer::Refused(sizes::LIKENESS);
     }
     SizesAnswer::Known(s)
 }
@@ -193,13 +193,13 @@ pub fn mask(mask: u64, size: usize) -> MaskAnswer
     ensures { λ r. ⌜ r ≡ maskOf mask size ⌝ }
 {
     if size < 1 {
-        return MaskAnswer::Refused(Refusal { number: 6 });
+        return MaskAnswer::Refused(sizes::MASK_SIZE);
     }
     if 63 < size {
-        return MaskAnswer::Refused(Refusal { number: 6 });
+        return MaskAnswer::Refused(sizes::MASK_SIZE);
     }
     if mask >> size != 0 {
-        return MaskAnswer::Refused(Refusal { number: 7 });
+        return MaskAnswer::Refused(sizes::MASK_BITS);
     }
     MaskAnswer::Fits
 }

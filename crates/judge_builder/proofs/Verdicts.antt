@@ -9,7 +9,7 @@ use lib.ListN.{length}
 use borrow.Author.Tests.{le-leb, leb-true}
 use Rattle.sets.specs.Configurations.{W, blocks, known, configAt}
 use Rattle.sets.specs.Filter.{isBuilder}
-use Rattle.sets.specs.Refusals.{Test, Verdict, taken, refused, firstFailing, verdict, answer, areasLent, builderAreas, builderLent}
+use Rattle.sets.specs.Refusals.{Test, Verdict, taken, refused, firstFailing, verdict, answer, areasLent, builderAreas, builderLent, Cause, because, configuration, room, soundness}
 use Rattle.sets.specs.Refusals.{areBuilder, holdsArea, holdAreas}
 use Rattle.sets.proofs.Configurations.{line-at, whole-blocks}
 use Rattle.sets.proofs.Tests.{both-true, and-left, and-right}
@@ -41,7 +41,7 @@ module _ (n x y : ℕ) where
   unfolding filters.areasOf areasOf
   areas-half =
       ap (λ (b : Bool). filters.judged n
-      (cond (known n) (cond b (cond (leb (blocks (configAt n)) y) taken (refused 3)) (refused 3)) (refused 1)))
+      (cond (known n) (cond b (cond (leb (blocks (configAt n)) y) taken (refused (because room))) (refused (because room))) (refused (because configuration))))
       (half (configAt n .M) x)
 
   -- what the answer tells: the tests pass, and these are the sizes
@@ -49,16 +49,16 @@ module _ (n x y : ℕ) where
   unfolding areasOf
   areas-told s q = judged-known n (verdict (builderAreas n x y)) s q
 
-  pub areas-refused : (r : Refusal) → areasOf n x y ≡ Refused r → (k : ℕ) × (verdict (builderAreas n x y) ≡ refused k) × (r ≡ refusal k)
+  pub areas-refused : (r : Refusal) → areasOf n x y ≡ Refused r → (k : Cause) × (verdict (builderAreas n x y) ≡ refused k) × (r ≡ refusal k)
   unfolding areasOf
   areas-refused r q = judged-refused n (verdict (builderAreas n x y)) r q
 
   pub areas-pass : verdict (builderAreas n x y) ≡ taken → (known n ≡ true) × (2 * configAt n .M ≤ x) × (blocks (configAt n) ≤ y)
   areas-pass v =
-      let w : Verdict = cond (leb (blocks (configAt n)) y) taken (refused 3) in
-      let p = passed (known n) (cond (leb (2 * configAt n .M) x) w (refused 3)) 1 v in
-      let q = passed (leb (2 * configAt n .M) x) w 3 (p .1) in
-      (p .0, leb-true _ _ (q .0), leb-true _ _ (passed (leb (blocks (configAt n)) y) taken 3 (q .1) .0))
+      let w : Verdict = cond (leb (blocks (configAt n)) y) taken (refused (because room)) in
+      let p = passed (known n) (cond (leb (2 * configAt n .M) x) w (refused (because room))) (because configuration) v in
+      let q = passed (leb (2 * configAt n .M) x) w (because room) (p .1) in
+      (p .0, leb-true _ _ (q .0), leb-true _ _ (passed (leb (blocks (configAt n)) y) taken (because room) (q .1) .0))
 
 room-of : (n : ℕ) (pending bits : List ℕ) → verdict (builderAreas n (length pending) (length bits)) ≡ taken
     → Room (2 * sizesAt n .top) (sizesAt n .blocks) pending bits
@@ -111,14 +111,14 @@ module _ (n : ℕ) (st : Stage) (pending bits : List ℕ) where
   -- after 1 and 3: what test 8 told, of the sizes that were answered
   pub builder-rest : (s : Sizes) → areasOf n (length pending) (length bits) ≡ Known s
       → (b : Bool) → b ≡ isBuilder (s .top) (64 * s .blocks) pending bits (st .count) (st .split)
-      → answer (cond b taken (refused 8)) (λ k. Refused (refusal k)) (Known s) ≡ builderOf n st pending bits
+      → answer (cond b taken (refused (because soundness))) (λ k. Refused (refusal k)) (Known s) ≡ builderOf n st pending bits
   unfolding builderOf
   builder-rest s q b h =
       let a = areas-told n (length pending) (length bits) s q in
       let e : b ≡ sound =
       h ∙ ap (λ (x : Sizes). isBuilder (x .top) (64 * x .blocks) pending bits (st .count) (st .split)) (a .1) ∙ by-sizes in
-      let v : cond b taken (refused 8) ≡ verdict (builderLent (recordAt n st) pending bits) =
-      ap (λ (x : Bool). cond x taken (refused 8)) e
+      let v : cond b taken (refused (because soundness)) ≡ verdict (builderLent (recordAt n st) pending bits) =
+      ap (λ (x : Bool). cond x taken (refused (because soundness))) e
       ∙ sym (after-taken (builderAreas n (length pending) (length bits)) (soundTest ∷ []) (a .0)) in
       ap₂ (λ (k : Sizes) (w : Verdict). answer w (λ i. Refused (refusal i)) (Known k)) (a .1) v
 
@@ -129,7 +129,7 @@ module _ (n : ℕ) (st : Stage) (pending bits : List ℕ) where
   builder-told s q = judged-known n (verdict (builderLent (recordAt n st) pending bits)) s q
 
   pub builder-refused : (r : Refusal) → builderOf n st pending bits ≡ Refused r
-      → (k : ℕ) × (verdict (builderLent (recordAt n st) pending bits) ≡ refused k) × (r ≡ refusal k)
+      → (k : Cause) × (verdict (builderLent (recordAt n st) pending bits) ≡ refused k) × (r ≡ refusal k)
   unfolding builderOf
   builder-refused r q = judged-refused n (verdict (builderLent (recordAt n st) pending bits)) r q
 
@@ -140,7 +140,7 @@ module _ (n : ℕ) (st : Stage) (pending bits : List ℕ) where
       record {
         known = areas-pass n (length pending) (length bits) (a .0) .0;
         room = room-of n pending bits (a .0);
-        staged = sound-staged n pending bits st (passed sound taken 8 (a .1) .0);
+        staged = sound-staged n pending bits st (passed sound taken (because soundness) (a .1) .0);
       }
 
 -- ---- 1, 3, 8, with room for a filter
@@ -169,13 +169,13 @@ module _ (n : ℕ) (st : Stage) (pending bits : List ℕ) (top blk : ℕ) where
 
   filter-first : lent ≡ firstFailing (areasLent n top blk ++ rest)
   filter-first =
-      ap (λ (v : Verdict). cond (known n) v (refused 1))
+      ap (λ (v : Verdict). cond (known n) v (refused (because configuration)))
       (swap (leb (2 * configAt n .M) (length pending)) (leb (blocks (configAt n)) (length bits)) (leb (configAt n .M) top)
       (leb (blocks (configAt n)) blk)
-      (cond (isBuilder (configAt n .M) (W (configAt n)) pending bits (st .count) (st .split)) taken (refused 8)))
+      (cond (isBuilder (configAt n .M) (W (configAt n)) pending bits (st .count) (st .split)) taken (refused (because soundness))))
 
   after-known : known n ≡ true → verdict (builderLent (recordAt n st) pending bits) ≡ firstFailing rest
-  after-known k = ap (λ (b : Bool). cond b (firstFailing rest) (refused 1)) k
+  after-known k = ap (λ (b : Bool). cond b (firstFailing rest) (refused (because configuration))) k
 
   pub target-no-areas : (r : Refusal) → filters.areasOf n top blk ≡ Refused r → Refused r ≡ targetOf n st pending bits top blk
   unfolding targetOf
@@ -195,7 +195,7 @@ module _ (n : ℕ) (st : Stage) (pending bits : List ℕ) (top blk : ℕ) where
   unfolding targetOf
   target-told s q = judged-known n lent s q
 
-  pub target-refused : (r : Refusal) → targetOf n st pending bits top blk ≡ Refused r → (k : ℕ) × (lent ≡ refused k) × (r ≡ refusal k)
+  pub target-refused : (r : Refusal) → targetOf n st pending bits top blk ≡ Refused r → (k : Cause) × (lent ≡ refused k) × (r ≡ refusal k)
   unfolding targetOf
   target-refused r q = judged-refused n lent r q
 

@@ -5,7 +5,6 @@ ghost use Rattle.sets.specs.Filter.{isBuilder};
 ghost use Rattle.bitvec.specs.Parts.{Room};
 ghost use Rattle.judge_builder.specs.Judging.{areasOf, builderOf, targetOf};
 use pending::Stage;
-use sizes::Refusal;
 use sizes::SizesAnswer;
 
 // Whether cells, blocks and stage are a builder's.
@@ -44,7 +43,7 @@ pub fn builder(config: u64, stage: Stage, pending: &[u32], bits: &[u64]) -> Size
     match areas(config, pending.len(), bits.len()) {
         SizesAnswer::Known(s) => {
             if !is_builder(pending, bits, stage, s.top, s.blocks) {
-                return SizesAnswer::Refused(Refusal { number: 8 });
+                return SizesAnswer::Refused(sizes::SOUNDNESS);
             }
             SizesAnswer::Known(s)
         }

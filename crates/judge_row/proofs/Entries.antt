@@ -1,8 +1,9 @@
 -- The walks over a row's entries, which ask whether each is below a bound. Assumes nothing.
 use mathlib.Core.Path.{_≡_, refl, sym, ap, ap₂, _∙_}
-use mathlib.Core.Bool.{Bool, true, false, _&&_}
+use mathlib.Core.Bool.{Bool, true, false, cond, _&&_}
 use mathlib.Core.List.{List, [], _∷_}
 use Prim.Native.Nat.{ℕ, _+_, _-_, _*_, _≤_, _<_}
+use native.Mathlib.Nat.{add-mul, mul-le-mul-right, one-mul, zero-mul}
 use native.Mathlib.Numerals.{add-one}
 use native.Mathlib.Omega.{arith}
 use lib.Dec.{ltb}
@@ -10,10 +11,11 @@ use lib.ListN.{getD, take, drop, drop-of-length-le, List·getD-eq-default}
 use lib.Seq.{drop-cons}
 use borrow.Author.Tests.{lt-ltb, le-ltb}
 use Rattle.sets.specs.Sets.{allBelow}
-use Rattle.sets.specs.Row.{little, numbers, rising, sound}
+use Rattle.sets.specs.Row.{little, numbers, place, rising}
 use Rattle.sets.proofs.Bytes.{length-numbers}
-use Rattle.sets.proofs.Reading.{sound-then}
 use Rattle.bitchunks.proofs.Rows.{entry-at}
+use Rattle.judge_row.specs.Judging.{placed}
+use Rattle.judge_row.specs.declared.Place.the-variants.{Nowhere, At}
 
 -- ---- one turn
 
@@ -57,28 +59,40 @@ module _ (limit w count : ℕ) (row : List ℕ) (i : ℕ) (t : Within limit w co
   pub fit-end : count ≤ i → true ≡ allBelow limit (numbers w count row)
   fit-end h = sym (t ∙ ap (allBelow limit) (none-left w count row i h))
 
--- ---- entries_fall
+-- ---- fall_place
 
--- the same of falling; it does not matter which place is told
-abbrev falls : ℕ → ℕ → ℕ → List ℕ → Bool
-falls w at last l = sound (rising w at last l)
-
+-- where all entries do not fall is where the ones from i on do not, after the last one passed
 abbrev pub Falling : ℕ → ℕ → ℕ → List ℕ → ℕ → ℕ → Type 0
-Falling limit w count row last i = (at : ℕ) × (falls w 0 limit (numbers w count row) ≡ falls w at last (drop i (numbers w count row)))
+Falling limit w count row last i = rising w 0 limit (numbers w count row) ≡ rising w (i * w) last (drop i (numbers w count row))
+
+pub fall-start : (limit w count : ℕ) (row : List ℕ) → Falling limit w count row limit 0
+fall-start limit w count row = ap (λ (a : ℕ). rising w a limit (numbers w count row)) (sym (zero-mul w))
 
 module _ (limit w count : ℕ) (row : List ℕ) (last i : ℕ) (t : Falling limit w count row last i) where
   module _ (h : i < count) (x : ℕ) (e : x ≡ little (take w (drop (i * w) row))) where
-    first : (l : List ℕ) → falls w (t .0) last (x ∷ l) ≡ (ltb x last && falls w (t .0 + w) x l)
-    first l = sound-then (ltb x last) (rising w (t .0 + w) x l) (t .0)
+    turned : {b : Bool} → ltb x last ≡ b → rising w 0 limit (numbers w count row)
+        ≡ cond b (rising w (i * w + w) x (drop (i + 1) (numbers w count row))) (place (i * w))
+    turned q =
+        t
+        ∙ ap (rising w (i * w) last) (seen w count row i h x e)
+        ∙ ap (λ (b : Bool). cond b (rising w (i * w + w) x (drop (i + 1) (numbers w count row))) (place (i * w))) q
 
-    pub fall-not : last ≤ x → false ≡ sound (rising w 0 limit (numbers w count row))
-    fall-not = stops w count row i h x e last (falls w (t .0) last) (falls w (t .0 + w) x) first (t .1)
+    pub fall-at : last ≤ x → At (i * w) ≡ placed (rising w 0 limit (numbers w count row))
+    fall-at l = sym (ap placed (turned (le-ltb x last l)))
 
     pub fall-turn : x < last → Falling limit w count row x (i + 1)
-    fall-turn l = (t .0 + w, goes w count row i h x e last (falls w (t .0) last) (falls w (t .0 + w) x) first (t .1) l)
+    fall-turn l =
+        let a : i * w + w ≡ (i + 1) * w = omega (arith, add-mul i 1 w, one-mul w) in
+        turned (lt-ltb x last l) ∙ ap (λ (b : ℕ). rising w b x (drop (i + 1) (numbers w count row))) a
 
-  pub fall-end : count ≤ i → true ≡ sound (rising w 0 limit (numbers w count row))
-  fall-end h = sym (t .1 ∙ ap (falls w (t .0) last) (none-left w count row i h))
+  pub fall-end : count ≤ i → Nowhere ≡ placed (rising w 0 limit (numbers w count row))
+  fall-end h = sym (ap placed (t ∙ ap (rising w (i * w) last) (none-left w count row i h)))
+
+-- an entry's place is within the row
+pub place-in : (i count w n : ℕ) → i < count → count * w ≤ n → i * w ≤ n
+place-in i count w n h l =
+    let k : i ≤ count = omega arith in
+    omega (arith, mul-le-mul-right w k)
 
 -- ---- boundary_of
 

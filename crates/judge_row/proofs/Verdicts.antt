@@ -1,25 +1,26 @@
 -- What is answered of a row where a test fails, and what the answer tells. Assumes nothing.
 use mathlib.Core.Path.{_≡_, refl, sym, ap, ap₂, _∙_, subst}
-use mathlib.Core.Bool.{Bool, true, false, cond, not, _&&_}
-use mathlib.Core.List.{List, _++_}
+use mathlib.Core.Bool.{Bool, true, false, cond, not}
+use mathlib.Core.List.{List, [], _∷_, _++_}
 use Prim.Native.Nat.{ℕ, _+_, _-_, _*_, _^_, _≤_}
 use native.Mathlib.Omega.{arith}
 use lib.ListN.{length, length-append}
 use borrow.Author.Tests.{not-true, not-false}
-use Rattle.sets.specs.Sets.{Set, allBelow, members}
+use Rattle.sets.specs.Sets.{Set, members}
 use Rattle.sets.specs.Words.{held}
 use Rattle.sets.specs.Configurations.{Config, W, configAt, known}
 use Rattle.sets.specs.Filter.{exactCountAt}
-use Rattle.sets.specs.Row.{countFault, entriesFit, fallFault, faultless, highFault, isRow, lengthFits, sound, spareFault}
+use Rattle.sets.specs.Row.{Fault, countFault, entriesFit, fallFault, highFault, isRow, lengthFits, nowhere, place, spareFault}
 use Rattle.sets.specs.Row.{rowBlockCount, rowBlocks, rowBoundary, rowEntries, shownRow}
-use Rattle.sets.specs.Refusals.{Verdict, taken, refused, verdict, answer, isRowOf}
+use Rattle.sets.specs.Refusals.{Cause, Verdict, taken, refused, because, finds, firstFailing, isRowOf, test, verdict}
+use Rattle.sets.specs.Refusals.{blockCount, configuration, fall, high, range, rowLength, spare}
 use Rattle.sets.proofs.Configurations.{entry-width, line-at, whole-blocks}
 use Rattle.sets.proofs.Laws.{falls-low, members-gap, members-length}
 use Rattle.sets.proofs.Bytes.{length-numbers}
 use Rattle.sets.proofs.Split.{joined-members}
 use Rattle.sets.proofs.Rows.{shown-row}
 use Rattle.sets.proofs.Reading.{Faultless, entries-split, faultless-facts, length-facts, row-tests, verdict-row}
-use Rattle.sets.proofs.Verdicts.{passed, cond-and}
+use Rattle.sets.proofs.Verdicts.{passed}
 use Rattle.sizes.specs.Sizes.{sizesAt, sizesOf, refusal}
 use Rattle.sizes.specs.declared.Sizes.{Sizes}
 use Rattle.sizes.specs.declared.Refusal.{Refusal}
@@ -29,24 +30,27 @@ use Rattle.sizes.proofs.Laws.{known-of, unknown-of}
 use Rattle.bitchunks.specs.Rows.{RowWalks, blocks, entries, layoutOf, rowSet}
 use Rattle.bitchunks.specs.declared.Layout.{Layout}
 use Rattle.bitchunks.proofs.Shown.{row-walk, row-walks}
-use Rattle.judge_row.specs.Judging.{Listed, entriesFall, rowVerdict, rowOf}
+use Rattle.judge_row.specs.Judging.{Listed, faultOf, faultVerdict, found, rowAnswer, rowVerdict, rowOf}
 use Rattle.judge_row.specs.declared.RowAnswer.{RowAnswer}
 use Rattle.judge_row.specs.declared.RowAnswer.the-variants.{Fits, Refused}
-use Rattle.judge_row.proofs.Faults.{Placed, not-falling, placed, rising-below}
+use Rattle.judge_row.specs.declared.RowFault.{RowFault}
+use Rattle.judge_row.specs.declared.RowFault.the-variants as faults
 
--- the four tests of 5 are one
-four : (a b d h : Bool) (v w : Verdict) → cond a (cond b (cond d (cond h v w) w) w) w ≡ cond (a && (b && (d && h))) v w
-four a b d h v w =
-    ap (λ (x : Verdict). cond a (cond b x w) w) (cond-and d h v w)
-    ∙ ap (λ (x : Verdict). cond a x w) (cond-and b (d && h) v w)
-    ∙ cond-and a (b && (d && h)) v w
+-- 2 and the four tests of 5 tell what is told of the first fault
+faults-told : (e : Bool) (f g h i : Fault)
+    → firstFailing (test range e ∷ finds fall f ∷ finds blockCount g ∷ finds spare h ∷ finds high i ∷ [])
+    ≡ faultVerdict (cond e (found (λ b. faults.Fall b) f (found (λ b. faults.BlockCount b) g
+    (found (λ b. faults.Spare b) h (found (λ b. faults.High b) i faults.Nowhere)))) faults.Range)
+faults-told false f g h i = refl
+faults-told true (place b) g h i = refl
+faults-told true nowhere (place b) h i = refl
+faults-told true nowhere nowhere (place b) i = refl
+faults-told true nowhere nowhere nowhere (place b) = refl
+faults-told true nowhere nowhere nowhere nowhere = refl
 
 -- the tests of a row, one after the other
-abbrev chain : Bool → Bool → Bool → Bool → Verdict
-chain a b d h = cond a (cond b (cond d (cond h taken (refused 5)) (refused 2)) (refused 4)) (refused 1)
-
-abbrev answerOf : Verdict → Sizes → Layout → RowAnswer
-answerOf v s l = answer v (λ k. Refused (refusal k)) (Fits s l)
+abbrev chain : Bool → Bool → RowFault → Verdict
+chain a b x = cond a (cond b (faultVerdict x) (refused (because rowLength))) (refused (because configuration))
 
 -- the sizes that were answered
 module _ (n : ℕ) {j : SizesAnswer} {s : Sizes} (f : j ≡ sizesOf n) (q : j ≡ sized.Known s) where
@@ -57,95 +61,53 @@ module _ (n : ℕ) {j : SizesAnswer} {s : Sizes} (f : j ≡ sizesOf n) (q : j �
   row-listed = (n, sizes-are .1)
 
 module _ (n : ℕ) (bs : List ℕ) where
-  chained : rowVerdict n bs ≡ chain (known n) (lengthFits (configAt n) bs) (entriesFit (configAt n) bs) (faultless (configAt n) bs)
-  unfolding rowVerdict
+  chained : rowVerdict n bs ≡ chain (known n) (lengthFits (configAt n) bs) (faultOf (configAt n) bs)
+  unfolding rowVerdict faultOf
   chained =
       let c : Config = configAt n in
-      ap (λ (v : Verdict). cond (known n) (cond (lengthFits c bs) (cond (entriesFit c bs) v (refused 2)) (refused 4)) (refused 1))
-      (four (sound (fallFault c bs)) (sound (countFault c bs)) (sound (spareFault c bs)) (sound (highFault c bs)) taken (refused 5))
+      ap (λ (v : Verdict). cond (known n) (cond (lengthFits c bs) v (refused (because rowLength))) (refused (because configuration)))
+      (faults-told (entriesFit c bs) (fallFault c bs) (countFault c bs) (spareFault c bs) (highFault c bs))
 
   -- what the tests told, and what is answered
-  row-is : {s : Sizes} {l : Layout} → s ≡ sizesAt n → l ≡ layoutOf (configAt n) bs → (a b d h : Bool)
-      → known n ≡ a → lengthFits (configAt n) bs ≡ b → entriesFit (configAt n) bs ≡ d → faultless (configAt n) bs ≡ h
-      → answerOf (chain a b d h) s l ≡ rowOf n bs
+  row-is : {s : Sizes} {l : Layout} → s ≡ sizesAt n → l ≡ layoutOf (configAt n) bs → (a b : Bool) (x : RowFault)
+      → known n ≡ a → lengthFits (configAt n) bs ≡ b → faultOf (configAt n) bs ≡ x
+      → rowAnswer (chain a b x) s l ≡ rowOf n bs
   unfolding rowOf
-  row-is e m a b d h ha hb hd hh =
-      let v : chain a b d h ≡ rowVerdict n bs = sym (chained ∙ rw (ha, hb, hd, hh)) in
-      ap₂ (λ (x : Sizes) (y : Layout). answerOf (chain a b d h) x y) e m
-      ∙ ap (λ (x : Verdict). answerOf x (sizesAt n) (layoutOf (configAt n) bs)) v
+  row-is e m a b x ha hb hx =
+      let v : chain a b x ≡ rowVerdict n bs = sym (chained ∙ rw (ha, hb, hx)) in
+      ap₂ (λ (y : Sizes) (z : Layout). rowAnswer (chain a b x) y z) e m
+      ∙ ap (λ (w : Verdict). rowAnswer w (sizesAt n) (layoutOf (configAt n) bs)) v
 
   pub row-unknown : {j : SizesAnswer} {r : Refusal} → j ≡ sizesOf n → j ≡ sized.Refused r → Refused r ≡ rowOf n bs
   row-unknown {r = r} f q =
       let u = unknown-of n r (sym f ∙ q) in
-      ap (λ (x : Refusal). Refused x) (u .1) ∙ row-is refl refl false _ _ _ (u .0) refl refl refl
+      ap (λ (x : Refusal). Refused x) (u .1) ∙ row-is refl refl false _ _ (u .0) refl refl
 
   module _ {j : SizesAnswer} {s : Sizes} (f : j ≡ sizesOf n) (q : j ≡ sized.Known s) where
     here : s ≡ sizesAt n
     here = sizes-are n f q .1
 
-    -- after 1: of the sizes that were answered
-    after-1 : {l : Layout} → l ≡ layoutOf (configAt n) bs → (b d h : Bool)
-        → lengthFits (configAt n) bs ≡ b → entriesFit (configAt n) bs ≡ d → faultless (configAt n) bs ≡ h
-        → answerOf (chain true b d h) s l ≡ rowOf n bs
-    after-1 m b d h = row-is here m true b d h (sizes-are n f q .0)
+    module _ {b : Bool} (hb : (i : ℕ) → s ≡ sizesAt i → b ≡ lengthFits (configAt i) bs) where
+      pub row-misfit : not b ≡ true → Refused (refusal (because rowLength)) ≡ rowOf n bs
+      row-misfit tb = row-is here refl true false _ (sizes-are n f q .0) (sym (hb n here) ∙ not-true b tb) refl
 
-    pub row-misfit : {b : Bool} → ((i : ℕ) → s ≡ sizesAt i → b ≡ lengthFits (configAt i) bs) → not b ≡ true
-        → Refused (refusal 4) ≡ rowOf n bs
-    row-misfit {b} hb tb = after-1 refl false _ _ (sym (hb n here) ∙ not-true b tb) refl refl
-
-    module _ {l : Layout} (hl : (i : ℕ) → s ≡ sizesAt i → l ≡ layoutOf (configAt i) bs) where
-      pub row-placed : Placed s l bs
-      row-placed = placed n here (hl n here)
-
-      entries-are : entriesFit (configAt n) bs ≡ allBelow (s .buckets) (entries l bs)
-      unfolding sizesAt entriesFit rowEntries
-      entries-are = sym (ap₂ (λ (x : Sizes) (y : Layout). allBelow (x .buckets) (entries y bs)) here (hl n here))
-
-      module _ {b : Bool} (hb : (i : ℕ) → s ≡ sizesAt i → b ≡ lengthFits (configAt i) bs) (tb : not b ≡ false) where
-        -- after 4
-        after-4 : (d h : Bool) → entriesFit (configAt n) bs ≡ d → faultless (configAt n) bs ≡ h
-            → answerOf (chain true true d h) s l ≡ rowOf n bs
-        after-4 d h = after-1 (hl n here) true d h (sym (hb n here) ∙ not-false b tb)
-
-        module _ {d : Bool} (hd : d ≡ entriesFall s l bs) where
-          -- refused by 2 or else by 5
-          pub row-unfallen : not d ≡ true → {x : Refusal} → x ≡ refusal (cond (allBelow (s .buckets) (entries l bs)) 5 2)
-              → Refused x ≡ rowOf n bs
-          row-unfallen td q =
-              let fits : Bool = allBelow (s .buckets) (entries l bs) in
-              ap (λ (x : Refusal). Refused x) q
-              ∙ two-five fits
-              ∙ after-4 fits false entries-are (sym (not-falling n bs here (hl n here) (sym (not-true d td) ∙ hd)))
-            where
-              two-five : (e : Bool) → Refused (refusal (cond e 5 2)) ≡ answerOf (chain true true e false) s l
-              two-five true = refl
-              two-five false = refl
-
-          module _ (td : not d ≡ false) {h : Bool} (hh : (i : ℕ) → s ≡ sizesAt i → h ≡ faultless (configAt i) bs) where
-            -- after 2: what falls fits
-            after-2 : (k : Bool) → h ≡ k → answerOf (chain true true true k) s l ≡ rowOf n bs
-            after-2 k e =
-                let w : ℕ = s .buckets in
-                after-4 true k (entries-are
-                ∙ rising-below (l .width) 0 w w (entries l bs) (omega arith) (sym (not-false d td) ∙ hd)) (sym (hh n here) ∙ e)
-
-            pub row-faulty : not h ≡ true → Refused (refusal 5) ≡ rowOf n bs
-            row-faulty th = after-2 false (not-true h th)
-
-            pub row-fits : not h ≡ false → Fits s l ≡ rowOf n bs
-            row-fits th = after-2 true (not-false h th)
+      pub row-judged : not b ≡ false → {l : Layout} → ((i : ℕ) → s ≡ sizesAt i → l ≡ layoutOf (configAt i) bs)
+          → {x : RowFault} → ((i : ℕ) → s ≡ sizesAt i → x ≡ faultOf (configAt i) bs)
+          → {r : RowAnswer} → r ≡ rowAnswer (faultVerdict x) s l → r ≡ rowOf n bs
+      row-judged tb hl {x} hx e =
+          e ∙ row-is here (hl n here) true true x (sizes-are n f q .0) (sym (hb n here) ∙ not-false b tb) (sym (hx n here))
 
 -- ---- for callers
 
 -- the answer of a verdict
 module _ (r : Sizes) (k : Layout) where
-  told : (v : Verdict) {s : Sizes} {l : Layout} → answerOf v r k ≡ Fits s l → (v ≡ taken) × (s ≡ r) × (l ≡ k)
+  told : (v : Verdict) {s : Sizes} {l : Layout} → rowAnswer v r k ≡ Fits s l → (v ≡ taken) × (s ≡ r) × (l ≡ k)
   told taken e = (refl, (cc), (cc))
   told (refused i) e =
       let z : _≡_ {A = ℕ} 0 1 = cc in
       absurd (omega arith)
 
-  told-refused : (v : Verdict) {x : Refusal} → answerOf v r k ≡ Refused x → (i : ℕ) × (v ≡ refused i) × (x ≡ refusal i)
+  told-refused : (v : Verdict) {x : Refusal} → rowAnswer v r k ≡ Refused x → (i : Cause) × (v ≡ refused i) × (x ≡ refusal i)
   told-refused taken e =
       let z : _≡_ {A = ℕ} 0 1 = cc in
       absurd (omega arith)
@@ -158,19 +120,19 @@ module _ (n : ℕ) (bs : List ℕ) where
   row-told e q = told (sizesAt n) (layoutOf (configAt n) bs) (rowVerdict n bs) (sym e ∙ q)
 
   pub row-refused : {j : RowAnswer} {x : Refusal} → j ≡ rowOf n bs → j ≡ Refused x
-      → (k : ℕ) × (rowVerdict n bs ≡ refused k) × (x ≡ refusal k)
+      → (k : Cause) × (rowVerdict n bs ≡ refused k) × (x ≡ refusal k)
   unfolding rowOf
   row-refused e q = told-refused (sizesAt n) (layoutOf (configAt n) bs) (rowVerdict n bs) (sym e ∙ q)
 
   -- of a known configuration the verdict is that of the row's own tests
   pub row-alone : known n ≡ true → rowVerdict n bs ≡ verdict (isRowOf (configAt n) bs)
   unfolding rowVerdict
-  row-alone h = ap (λ (b : Bool). cond b (verdict (isRowOf (configAt n) bs)) (refused 1)) h
+  row-alone h = ap (λ (b : Bool). cond b (verdict (isRowOf (configAt n) bs)) (refused (because configuration))) h
 
   pub row-taken : rowVerdict n bs ≡ taken → (known n ≡ true) × (isRow (configAt n) bs ≡ true)
   unfolding rowVerdict
   row-taken t =
-      let p = passed (known n) (verdict (isRowOf (configAt n) bs)) 1 t in
+      let p = passed (known n) (verdict (isRowOf (configAt n) bs)) (because configuration) t in
       (p .0, verdict-row (configAt n) bs .0 (p .1))
 
   pub row-takes : known n ≡ true → isRow (configAt n) bs ≡ true → rowVerdict n bs ≡ taken

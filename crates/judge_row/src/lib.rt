@@ -1,6 +1,6 @@
 // The tests by which the calls on rows refuse, in document 01's order. None writes to what it is lent.
 ghost use mathlib.Core.Path.{_≡_};
-ghost use mathlib.Core.Bool.{true, cond, _||_};
+ghost use mathlib.Core.Bool.{_||_};
 ghost use mathlib.Core.Logic.{_⊎_};
 ghost use Prim.Native.Nat.{ℕ, _+_, _-_, _*_, _/_, _^_, _≤_, _<_};
 ghost use lib.Dec.{eqb};
@@ -8,9 +8,9 @@ ghost use lib.ListN.{length, getD, drop};
 ghost use Rattle.sets.specs.Sets.{allBelow, members, onward};
 ghost use Rattle.sets.specs.Words.{held};
 ghost use Rattle.sets.specs.Configurations.{blocksFor, configAt};
-ghost use Rattle.sets.specs.Row.{faultless, lengthFits, lowest, numbers, rising, sound, spareByte};
-ghost use Rattle.sizes.specs.Sizes.{refusal, sizesAt};
-ghost use Rattle.judge_row.specs.Judging.{Listed, Measured, entriesFall, rowOf};
+ghost use Rattle.sets.specs.Row.{lengthFits, lowest, nowhere, numbers, rising, spareByte};
+ghost use Rattle.sizes.specs.Sizes.{sizesAt};
+ghost use Rattle.judge_row.specs.Judging.{Listed, Measured, NextDigit, entryFault, faultOf, faultVerdict, placed, rowAnswer, rowOf};
 use bitchunks::Layout;
 use sizes::Refusal;
 use sizes::Sizes;
@@ -20,6 +20,22 @@ use sizes::SizesAnswer;
 pub enum RowAnswer {
     Fits(Sizes, Layout),
     Refused(Refusal),
+}
+
+// The place of a byte, if there is one.
+enum Place {
+    Nowhere,
+    At(usize),
+}
+
+// The first of the tests 2 and 5 that finds a fault, and the place of its byte.
+enum RowFault {
+    Nowhere,
+    Range,
+    Fall(usize),
+    BlockCount(usize),
+    Spare(usize),
+    High(usize),
 }
 
 // ---- 4
@@ -84,33 +100,23 @@ fn entries_fit(row: &[u8], width: usize, count: usize, limit: usize) -> bool
     true
 }
 
-// Whether each entry is below the one before, the first below the limit. Then every entry is below the limit.
-fn entries_fall(row: &[u8], width: usize, count: usize, limit: usize) -> bool
+// The place of the first entry that is not below the one before, the first of all below the limit. With none every entry is below
+// the limit.
+fn fall_place(row: &[u8], width: usize, count: usize, limit: usize) -> Place
     requires { ⌜ ((width ≡ 2) ⊎ (width ≡ 4)) × (count * width ≤ length (now row)) ⌝ }
-    ensures { λ r. ⌜ r ≡ sound (rising width 0 limit (numbers width count (now (row .entry)))) ⌝ }
+    ensures { λ r. ⌜ r ≡ placed (rising width 0 limit (numbers width count (now (row .entry)))) ⌝ }
 {
     let mut last = limit;
     let mut i = 0;
     while i < count {
         let bucket = bitchunks::row_entry(row, width, i);
         if bucket >= last {
-            return false;
+            return Place::At(i * width);
         }
         last = bucket;
         i += 1;
     }
-    true
-}
-
-// The refusal of entries that do not fall: 2 goes before 5.
-fn unfallen(row: &[u8], width: usize, count: usize, limit: usize) -> Refusal
-    requires { ⌜ ((width ≡ 2) ⊎ (width ≡ 4)) × (count * width ≤ length (now row)) ⌝ }
-    ensures { λ r. ⌜ r ≡ refusal (cond (allBelow limit (numbers width count (now (row .entry)))) 5 2) ⌝ }
-{
-    if !entries_fit(row, width, count, limit) {
-        return Refusal { number: 2 };
-    }
-    Refusal { number: 5 }
+    Place::Nowhere
 }
 
 // ---- 5: the bit part
@@ -137,33 +143,86 @@ fn spare_fits(row: &[u8], place: usize, boundary: usize) -> bool
     row[place] == bitvec::unoccupied_bits(boundary)
 }
 
-// Whether the blocks for a boundary, which begin at this place, have no bit at or above it. Only the last of them can.
-fn high_fits(row: &[u8], at: usize, n: usize, boundary: usize) -> bool
-    requires { ⌜ (n ≡ blocksFor boundary) × (8 * n ≤ length (now row) - at) × (boundary ≤ 2 ^ 32) ⌝ }
-    ensures { λ r. ⌜ r ≡ sound (lowest at (members (onward boundary (held (numbers 8 n (drop at (now (row .entry)))))) (64 * n))) ⌝ }
+// The lowest place above this one that is set in a block.
+fn lowest_above(block: u64, bit: usize) -> usize
+    requires { ⌜ (bit < 64) × (2 ≤ block / 2 ^ bit) ⌝ }
+    ensures { λ r. ⌜ NextDigit block bit r ⌝ }
 {
-    if boundary == 0 {
-        return true;
+    let mut at = bit + 1;
+    while (block >> at) % 2 == 0 {
+        at += 1;
     }
-    let last = unaligned::read_u64(row, at + 8 * (n - 1));
-    last >> ((boundary - 1) % 64) < 2
+    at
 }
 
-// The four tests, the first of which has passed: the entries fall.
-fn is_faultless(row: &[u8], layout: Layout, s: Sizes) -> bool
+// The place of the byte that has the lowest bit at or above the boundary, in the blocks for it, which begin at the place `at`. Only
+// the last of them can have one.
+fn high_place(row: &[u8], at: usize, n: usize, boundary: usize) -> Place
+    requires { ⌜ (n ≡ blocksFor boundary) × (8 * n ≤ length (now row) - at) × (boundary ≤ 2 ^ 32) ⌝ }
+    ensures { λ r. ⌜ r ≡ placed (lowest at (members (onward boundary (held (numbers 8 n (drop at (now (row .entry)))))) (64 * n))) ⌝ }
+{
+    if boundary == 0 {
+        return Place::Nowhere;
+    }
+    let start = at + 8 * (n - 1);
+    let last = unaligned::read_u64(row, start);
+    let bit = (boundary - 1) % 64;
+    if last >> bit < 2 {
+        return Place::Nowhere;
+    }
+    Place::At(start + lowest_above(last, bit) / 8)
+}
+
+// The fault of a row whose entries fall.
+fn bit_fault(row: &[u8], layout: Layout, s: Sizes) -> RowFault
     requires { ⌜ Listed s ⌝ }
     requires { ⌜ Measured s layout (now row) ⌝ }
-    requires { ⌜ true ≡ entriesFall s layout (now row) ⌝ }
-    ensures { λ r. ⌜ ((n : ℕ) → s ≡ sizesAt n → r ≡ faultless (configAt n) (now (row .entry))) ⌝ }
+    requires { ⌜ entryFault s layout (now row) ≡ nowhere ⌝ }
+    ensures { λ r. ⌜ ((n : ℕ) → s ≡ sizesAt n → r ≡ faultOf (configAt n) (now (row .entry))) ⌝ }
 {
     let boundary = boundary_of(row, layout.width, layout.count, s.top);
+    let place = layout.at - 1;
     if layout.n != bitvec::num_blocks(boundary) {
-        return false;
+        return RowFault::BlockCount(place);
     }
-    if !spare_fits(row, layout.at - 1, boundary) {
-        return false;
+    if !spare_fits(row, place, boundary) {
+        return RowFault::Spare(place);
     }
-    high_fits(row, layout.at, layout.n, boundary)
+    match high_place(row, layout.at, layout.n, boundary) {
+        Place::At(p) => RowFault::High(p),
+        Place::Nowhere => RowFault::Nowhere,
+    }
+}
+
+// The fault of a row that may be so long. Entries that do not fall may be out of range, which goes before.
+fn fault_of(row: &[u8], layout: Layout, s: Sizes) -> RowFault
+    requires { ⌜ Listed s ⌝ }
+    requires { ⌜ Measured s layout (now row) ⌝ }
+    ensures { λ r. ⌜ ((n : ℕ) → s ≡ sizesAt n → r ≡ faultOf (configAt n) (now (row .entry))) ⌝ }
+{
+    match fall_place(row, layout.width, layout.count, s.buckets) {
+        Place::At(p) => {
+            if !entries_fit(row, layout.width, layout.count, s.buckets) {
+                return RowFault::Range;
+            }
+            RowFault::Fall(p)
+        }
+        Place::Nowhere => bit_fault(row, layout, s),
+    }
+}
+
+// What a fault is refused with. The place is not told.
+fn told(fault: RowFault, s: Sizes, layout: Layout) -> RowAnswer
+    ensures { λ r. ⌜ r ≡ rowAnswer (faultVerdict fault) s layout ⌝ }
+{
+    match fault {
+        RowFault::Nowhere => RowAnswer::Fits(s, layout),
+        RowFault::Range => RowAnswer::Refused(sizes::RANGE),
+        RowFault::Fall(_) => RowAnswer::Refused(sizes::FALL),
+        RowFault::BlockCount(_) => RowAnswer::Refused(sizes::BLOCK_COUNT),
+        RowFault::Spare(_) => RowAnswer::Refused(sizes::SPARE),
+        RowFault::High(_) => RowAnswer::Refused(sizes::HIGH),
+    }
 }
 
 // ---- a row
@@ -175,17 +234,10 @@ pub fn row(config: u64, row: &[u8]) -> RowAnswer
     match sizes::sizes_of(config) {
         SizesAnswer::Known(s) => {
             if !length_fits(row, s) {
-                return RowAnswer::Refused(Refusal { number: 4 });
+                return RowAnswer::Refused(sizes::ROW_LENGTH);
             }
             let layout = layout_of(row, s);
-            if !entries_fall(row, layout.width, layout.count, s.buckets) {
-                let refusal = unfallen(row, layout.width, layout.count, s.buckets);
-                return RowAnswer::Refused(refusal);
-            }
-            if !is_faultless(row, layout, s) {
-                return RowAnswer::Refused(Refusal { number: 5 });
-            }
-            RowAnswer::Fits(s, layout)
+            told(fault_of(row, layout, s), s, layout)
         }
         SizesAnswer::Refused(r) => RowAnswer::Refused(r),
     }

@@ -67,7 +67,7 @@ module _ (m : Text·Mask) where
     where
       go : (v : Verdict) → verdict (isMask (k .mask) (k .size)) ≡ v → unlessRefused v 2 k ≡ is m → Fits m
       go taken t e = subst Fits (is-same e) t
-      go (refused x) t e = refused-is x 2 m e
+      go (refused x) t e = refused-is (x .number) 2 m e
 
   decimals-fit : (v s : Option ℕ) → orMalformed v 2 (λ mask. orMalformed s 2 (λ size. judgedMask mask size)) ≡ is m → Fits m
   decimals-fit none s e = refused-is 11 2 m e

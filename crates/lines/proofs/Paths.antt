@@ -12,7 +12,7 @@ use lib.Seq.{take-all}
 use borrow.Author.Tests.{ne-eqb}
 use Rattle.sets.specs.Sets.{same}
 use Rattle.sets.specs.Configurations.{configAt}
-use Rattle.sets.specs.Refusals.{Verdict, areasLent, isRowOf, taken, verdict}
+use Rattle.sets.specs.Refusals.{Verdict, areasLent, isRowOf, taken, verdict, because, textForm}
 use Rattle.sets.specs.Row.{shownRow}
 use Rattle.sets.specs.Text.{Judged, Mask as Text·Mask, after, all, bareConfig, configLine, cut, cutAt, decimal, fromHex, is, isDigit}
 use Rattle.sets.specs.Text.{judgedMask, maskLine, numbered, refusedAt, space, text, twoDecimals, unlessRefused}
@@ -175,10 +175,10 @@ module _ (s to : List ℕ) {h : Hex} (H : Hexed s h to) where
   row-in e = hexed e .0
 
   module _ (n : ℕ) (top bits : List ℕ) where
-    pub no-hex : h ≡ hex.Malformed → ReadsLine n s top bits (made.Refused (refusal 11)) top bits
+    pub no-hex : h ≡ hex.Malformed → ReadsLine n s top bits (made.Refused (refusal (because textForm))) top bits
     no-hex e =
         makes-refused (lineVerdict (configAt n) (fromHex s)) (configAt n) (shownRow (configAt n) (bytesIn (fromHex s))) top bits
-        (refusal 11) 11
+        (refusal (because textForm)) (because textForm)
         (ap (lineVerdict (configAt n)) (subst (λ (x : Hex). Hexed s x to) e H)) refl
 
     -- with areas lent, reading judges by the row alone

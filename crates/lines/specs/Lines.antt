@@ -3,7 +3,7 @@ use mathlib.Core.List.{List, []}
 use mathlib.Core.Option.{Option, none, some}
 use Prim.Native.Nat.{ℕ}
 use Rattle.sets.specs.Configurations.{Config, configAt}
-use Rattle.sets.specs.Refusals.{Verdict, isRowOf, refused, verdict}
+use Rattle.sets.specs.Refusals.{Verdict, isRowOf, refused, verdict, because, textForm}
 use Rattle.sets.specs.Row.{shownRow}
 use Rattle.sets.specs.Text.{Judged, Mask as Text·Mask, fromHex, is, refusedAt}
 use Rattle.diff_count.specs.Making.{Makes}
@@ -29,7 +29,7 @@ maskTold (masks.Refused r) = refusedAt (r .number) 2
 
 -- a row's line: 11 of its text, or 4, 2 and 5 of its bytes
 abbrev pub lineVerdict : Config → Option (List ℕ) → Verdict
-lineVerdict c none = refused 11
+lineVerdict c none = refused (because textForm)
 lineVerdict c (some row) = verdict (isRowOf c row)
 
 abbrev pub bytesIn : Option (List ℕ) → List ℕ

@@ -15,9 +15,6 @@ use sizes::Refusal;
 // What `config` alone means.
 const BARE_CONFIG: u64 = 7;
 
-// The text is malformed.
-const MALFORMED: u8 = 11;
-
 pub enum ConfigLine {
     Is(u64),
     Refused(Refusal),
@@ -38,10 +35,10 @@ fn numbered(digits: &[u8]) -> ConfigLine
     ensures { λ r. ⌜ configTold r ≡ Text·numbered (now (digits .entry)) ⌝ }
 {
     if digits.len() != 1 && digits.len() != 2 {
-        return ConfigLine::Refused(Refusal { number: MALFORMED });
+        return ConfigLine::Refused(sizes::TEXT_FORM);
     }
     if !decode::all_digits(digits) {
-        return ConfigLine::Refused(Refusal { number: MALFORMED });
+        return ConfigLine::Refused(sizes::TEXT_FORM);
     }
     if decode::equals(digits, b"7") {
         return ConfigLine::Is(7);
@@ -49,7 +46,7 @@ fn numbered(digits: &[u8]) -> ConfigLine
     if decode::equals(digits, b"10") {
         return ConfigLine::Is(10);
     }
-    ConfigLine::Refused(Refusal { number: 1 })
+    ConfigLine::Refused(sizes::CONFIGURATION)
 }
 
 pub fn config_line(line: &[u8]) -> ConfigLine
@@ -59,7 +56,7 @@ pub fn config_line(line: &[u8]) -> ConfigLine
         return ConfigLine::Is(BARE_CONFIG);
     }
     if !decode::starts_with(line, b"config ") {
-        return ConfigLine::Refused(Refusal { number: MALFORMED });
+        return ConfigLine::Refused(sizes::TEXT_FORM);
     }
     numbered(&line[7..])
 }
@@ -69,15 +66,15 @@ fn two_decimals(text: &[u8]) -> MaskLine
     ensures { λ r. ⌜ maskTold r ≡ twoDecimals (cutAt space (now (text .entry))) ⌝ }
 {
     let Found::At(end) = decode::find(text, b' ') else {
-        return MaskLine::Refused(Refusal { number: MALFORMED });
+        return MaskLine::Refused(sizes::TEXT_FORM);
     };
     let Number::Is(mask) = decode::decimal(&text[..end]) else {
-        return MaskLine::Refused(Refusal { number: MALFORMED });
+        return MaskLine::Refused(sizes::TEXT_FORM);
     };
     let next = end + 1;
     match decode::decimal(&text[next..]) {
         Number::Is(size) => judged_mask(mask, size as usize),
-        Number::Malformed => MaskLine::Refused(Refusal { number: MALFORMED }),
+        Number::Malformed => MaskLine::Refused(sizes::TEXT_FORM),
     }
 }
 
@@ -94,7 +91,7 @@ pub fn mask_line(line: &[u8]) -> MaskLine
     ensures { λ r. ⌜ maskTold r ≡ maskLine (now (line .entry)) ⌝ }
 {
     if !decode::starts_with(line, b"mask ") {
-        return MaskLine::Refused(Refusal { number: MALFORMED });
+        return MaskLine::Refused(sizes::TEXT_FORM);
     }
     two_decimals(&line[5..])
 }
@@ -110,6 +107,6 @@ pub fn row_line(config: u64, line: &[u8], top: &mut [u32], blocks: &mut [u64]) -
     let mut row = [0u8; 20000];
     match decode::from_hex(line, &mut row) {
         Hex::Bytes(n) => rows::read(config, &row[..n], top, blocks),
-        Hex::Malformed => Made::Refused(Refusal { number: MALFORMED }),
+        Hex::Malformed => Made::Refused(sizes::TEXT_FORM),
     }
 }

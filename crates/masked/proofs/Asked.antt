@@ -9,7 +9,7 @@ use Rattle.sets.specs.Sets.{Agree, Set, apart, members}
 use Rattle.sets.specs.Words.{blockAt}
 use Rattle.sets.specs.Configurations.{W, blocksFor, configAt, positionBits}
 use Rattle.sets.specs.Masks.{holder, kept, keyOf, laid, largestMaskSize, orderOf, slotsFit}
-use Rattle.sets.specs.Refusals.{Test, Verdict, taken, refused, verdict, answer, filterLent, filtersLent, firstFailing, fitsSlots, inOrder}
+use Rattle.sets.specs.Refusals.{because, slot, Test, Verdict, taken, refused, verdict, answer, filterLent, filtersLent, firstFailing, fitsSlots, inOrder, Cause}
 use Rattle.sets.specs.Refusals.{isMask}
 use Rattle.sets.proofs.Configurations.{at-each}
 use Rattle.sets.proofs.Laws.{members-same}
@@ -38,7 +38,7 @@ use Rattle.masked.specs.declared.OrderAnswer.{OrderAnswer}
 use Rattle.masked.specs.declared.OrderAnswer.the-variants as orders
 
 -- a single test is left
-pub answer-last : {A : Type 0} (F : Refusal → A) (a : A) (b : Bool) (k : ℕ)
+pub answer-last : {A : Type 0} (F : Refusal → A) (a : A) (b : Bool) (k : Cause)
     → answer (cond b taken (refused k)) (λ n. F (refusal n)) a ≡ cond b a (F (refusal k))
 answer-last F a true k = refl
 answer-last F a false k = refl
@@ -46,7 +46,7 @@ answer-last F a false k = refl
 -- ---- 6 and 7, after the tests on what is lent and before any others
 
 module _ (mask size : ℕ) (ts us : List Test) (t : firstFailing ts ≡ taken) where
-  pub mask-decides : {k : ℕ} → verdict (isMask mask size) ≡ refused k → firstFailing (ts ++ (isMask mask size ++ us)) ≡ refused k
+  pub mask-decides : {k : Cause} → verdict (isMask mask size) ≡ refused k → firstFailing (ts ++ (isMask mask size ++ us)) ≡ refused k
   mask-decides m = after-taken ts (isMask mask size ++ us) t ∙ after-refused (isMask mask size) us m
 
   pub mask-passes : verdict (isMask mask size) ≡ taken → firstFailing (ts ++ (isMask mask size ++ us)) ≡ firstFailing us
@@ -98,7 +98,7 @@ module _ (mask size : ℕ) {j : MaskAnswer} (e : j ≡ maskOf mask size) (q : j 
 
 module _ (a : Filter) (top bits : List ℕ) (b : Filter) (top2 bits2 : List ℕ) (mask size : ℕ) where
   abbrev cmpLent : List Test
-  cmpLent = inOrder 0 9 (filtersLent (recordIn a) top bits (recordIn b) top2 bits2)
+  cmpLent = inOrder (filtersLent (recordIn a) top bits (recordIn b) top2 bits2)
 
   abbrev cmpShown : OrderAnswer
   cmpShown = orderTold (orderOf (W (configAt (a .config))) mask size (shownBy a top bits) (shownBy b top2 bits2))
@@ -108,7 +108,7 @@ module _ (a : Filter) (top bits : List ℕ) (b : Filter) (top2 bits2 : List ℕ)
   cmp-taken t m = ap (λ (v : Verdict). answer v (λ x. orders.Refused (refusal x)) cmpShown) (sym (mask-passes mask size cmpLent [] t m))
 
   -- what a judge refuses, the call does
-  pub cmp-refused : {x : Refusal} → ((k : ℕ) × (firstFailing cmpLent ≡ refused k) × (x ≡ refusal k))
+  pub cmp-refused : {x : Refusal} → ((k : Cause) × (firstFailing cmpLent ≡ refused k) × (x ≡ refusal k))
       → orders.Refused x ≡ cmpOf a top bits b top2 bits2 mask size
   unfolding cmpOf cmpVerdict
   cmp-refused w = refuses (λ x. orders.Refused x) cmpShown (w .0, after-refused cmpLent (isMask mask size) (w .1), w .2)
@@ -151,10 +151,10 @@ module _ (f : Filter) (top bits : List ℕ) (mask size : ℕ) where
       ≡ keyFor f top bits mask size
   unfolding keyFor keyOf keyTold keyVerdict slotsFit
   key-taken t m =
-      sym (answer-last (λ x. keys.Refused x) keyShown (slotsFit (configAt (f .config)) mask size (shownBy f top bits)) 10)
+      sym (answer-last (λ x. keys.Refused x) keyShown (slotsFit (configAt (f .config)) mask size (shownBy f top bits)) (because slot))
       ∙ ap (λ (v : Verdict). answer v (λ x. keys.Refused (refusal x)) keyShown) (sym (mask-passes mask size keyLent slots t m))
 
-  pub key-refused : {x : Refusal} → ((k : ℕ) × (firstFailing keyLent ≡ refused k) × (x ≡ refusal k))
+  pub key-refused : {x : Refusal} → ((k : Cause) × (firstFailing keyLent ≡ refused k) × (x ≡ refusal k))
       → keys.Refused x ≡ keyFor f top bits mask size
   unfolding keyFor keyVerdict
   key-refused w = refuses (λ x. keys.Refused x) keyShown (w .0, after-refused keyLent (isMask mask size ++ slots) (w .1), w .2)

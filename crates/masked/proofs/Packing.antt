@@ -22,13 +22,14 @@ use Rattle.bitchunks.proofs.Giving.{rest-none}
 use Rattle.masked.specs.Inner.{keyTold}
 use Rattle.masked.specs.declared.KeyAnswer.{KeyAnswer}
 use Rattle.masked.specs.declared.KeyAnswer.the-variants.{Key, Refused}
+use Rattle.sets.specs.Refusals.{because, slot}
 
 -- ---- what is still to be packed
 
 -- the answer where `slots` whole slots and the leftover are still to be filled from ps, below what `key` holds
 unfoldable pub told : ℕ → ℕ → ℕ → ℕ → List ℕ → KeyAnswer
 told bits leftover slots key ps =
-    cond (allBelow (2 ^ bits) (take (suc slots) ps)) (Key (key + packed bits leftover slots ps)) (Refused (refusal 10))
+    cond (allBelow (2 ^ bits) (take (suc slots) ps)) (Key (key + packed bits leftover slots ps)) (Refused (refusal (because slot)))
 
 module _ (bits leftover : ℕ) where
   told-nil : (slots key : ℕ) → told bits leftover slots key [] ≡ Key key
@@ -36,7 +37,7 @@ module _ (bits leftover : ℕ) where
   told-nil slots key = ap Key (omega (arith, packed-nil bits leftover slots))
 
   module _ (p : ℕ) (ps : List ℕ) where
-    told-bad : (slots key : ℕ) → 2 ^ bits ≤ p → told bits leftover slots key (p ∷ ps) ≡ Refused (refusal 10)
+    told-bad : (slots key : ℕ) → 2 ^ bits ≤ p → told bits leftover slots key (p ∷ ps) ≡ Refused (refusal (because slot))
     unfolding told
     told-bad slots key h = rw (le-ltb p (2 ^ bits) h)
 
@@ -107,7 +108,7 @@ module _ {S : Set} {tops : List ℕ} {bits : ℕ} {all : List ℕ} {key room pas
       limit-is : 1 * 2 ^ bits % 2 ^ 64 ≡ 2 ^ bits
       limit-is = shl-one bits (omega arith)
 
-      pub pack-bad : 1 * 2 ^ bits % 2 ^ 64 ≤ p → Refused (refusal 10) ≡ keyTold bits all
+      pub pack-bad : 1 * 2 ^ bits % 2 ^ 64 ≤ p → Refused (refusal (because slot)) ≡ keyTold bits all
       pack-bad b = sym (next ∙ told-bad bits (64 % bits) p ps (t .slots) key (omega (arith, limit-is)))
 
       module _ (b : p < 1 * 2 ^ bits % 2 ^ 64) where

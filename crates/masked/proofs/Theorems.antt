@@ -10,7 +10,7 @@ use Rattle.sets.specs.Sets.{Agree, Set}
 use Rattle.sets.specs.Configurations.{Config, W, known, configAt}
 use Rattle.sets.specs.Filter.{recordOf, topSlice, bitSlice}
 use Rattle.sets.specs.Masks.{Ordering, less, equal, greater, keyOf, largestMaskSize, orderOf, slotsFit}
-use Rattle.sets.specs.Refusals.{Verdict, taken, refused, verdict, answer, filterLent, filtersLent, fitsSlots, inOrder, isMask}
+use Rattle.sets.specs.Refusals.{Verdict, taken, refused, verdict, answer, filterLent, filtersLent, fitsSlots, inOrder, isMask, because, slot}
 use Rattle.sets.proofs.Configurations.{number-at}
 use Rattle.sets.proofs.Keys.{equal-key, greater-key, key-greater, key-same, slots-fit}
 use Rattle.sets.proofs.Order.{opposite, order-same, order-swap}
@@ -63,7 +63,7 @@ module _ (mask size : ℕ) (m : verdict (isMask mask size) ≡ taken) where
       let c : Config = configAt (f .config) in
       let S : Set = shownBy f top bits in
       sym (key-taken f top bits mask size (lent-taken p) m)
-      ∙ ap (λ (b : Bool). cond b (keys.Key (keyOf c mask size S)) (keys.Refused (refusal 10))) (slots-fit c mask size S)
+      ∙ ap (λ (b : Bool). cond b (keys.Key (keyOf c mask size S)) (keys.Refused (refusal (because slot)))) (slots-fit c mask size S)
 
 -- ---- order and key of the filters of sets
 
@@ -75,7 +75,7 @@ pub cmp-asked : (f : Filter) (top bits : List ℕ) (g : Filter) (top2 bits2 : Li
 unfolding cmpOf cmpVerdict
 cmp-asked f top bits g top2 bits2 S T x y e mask size =
     ap₂ orderAnswer
-    (after-taken (inOrder 0 9 (filtersLent (recordIn f) top bits (recordIn g) top2 bits2)) (isMask mask size)
+    (after-taken (inOrder (filtersLent (recordIn f) top bits (recordIn g) top2 bits2)) (isMask mask size)
     (both-pass f top bits g top2 bits2 (of-passes f top bits S x) (of-passes g top2 bits2 T y) e))
     (order-same (W (configAt (f .config))) mask size (shownBy f top bits) (shownBy g top2 bits2) S T (of-shown f top bits S x)
     (subst (λ (n : ℕ). Agree (W (configAt n)) (shownBy g top2 bits2) T) (sym e) (of-shown g top2 bits2 T y)))
@@ -184,7 +184,7 @@ module _ (f : Filter) (top bits : List ℕ) (g : Filter) (top2 bits2 : List ℕ)
   unfolding cmpOf cmpVerdict
   both-keys o e =
       let a = order-answered (cmpVerdict f top bits g top2 bits2 mask size) (orderOf (W line) mask size S T) o e in
-      let p = all-pass (inOrder 0 9 (filtersLent (recordIn f) top bits (recordIn g) top2 bits2)) (isMask mask size) (a .0) in
+      let p = all-pass (inOrder (filtersLent (recordIn f) top bits (recordIn g) top2 bits2)) (isMask mask size) (a .0) in
       let w =
       two-pass (f .config) (tallyOf f) top bits (g .config) (tallyOf g) top2 bits2 (length top) (length bits)
       (two-alone (f .config) (tallyOf f) top bits (g .config) (tallyOf g) top2 bits2 ∙ p .0) in (

@@ -9,7 +9,7 @@ use lib.ListN.{take}
 use Rattle.sets.specs.Sets.{Empty, Set, allBelow, apart}
 use Rattle.sets.specs.Words.{blockAt}
 use Rattle.sets.specs.Masks.{Ordering, less, equal, greater, kept, packed}
-use Rattle.sets.specs.Refusals.{Verdict, answer}
+use Rattle.sets.specs.Refusals.{Verdict, answer, because, slot}
 use Rattle.sizes.specs.Sizes.{refusal}
 use Rattle.masked.specs.declared.Deciding.{Deciding}
 use Rattle.masked.specs.declared.Deciding.the-variants.{Block, Nothing}
@@ -53,4 +53,4 @@ orderAnswer v o = answer v (λ r. orders.Refused (refusal r)) (orderTold o)
 -- the key of the kept buckets ps, with so many bits to a slot; or one of those that the key looks at does not fit
 unfoldable pub keyTold : ℕ → List ℕ → KeyAnswer
 keyTold bits ps =
-    cond (allBelow (2 ^ bits) (take (suc (64 / bits)) ps)) (keys.Key (packed bits (64 % bits) (64 / bits) ps)) (keys.Refused (refusal 10))
+    cond (allBelow (2 ^ bits) (take (suc (64 / bits)) ps)) (keys.Key (packed bits (64 % bits) (64 / bits) ps)) (keys.Refused (refusal (because slot)))

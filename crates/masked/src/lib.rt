@@ -159,7 +159,7 @@ fn pack(
             return KeyAnswer::Key(key);
         };
         if limit <= p {
-            return KeyAnswer::Refused(Refusal { number: 10 });
+            return KeyAnswer::Refused(sizes::SLOT);
         }
         // the leftover bits hold the high bits of one more
         if room < bits {

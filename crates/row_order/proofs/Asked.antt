@@ -8,7 +8,7 @@ use Rattle.sets.specs.Words.{blockAt}
 use Rattle.sets.specs.Configurations.{Config, W, known, configAt}
 use Rattle.sets.specs.Masks.{laid, orderOf}
 use Rattle.sets.specs.Row.{shownRow}
-use Rattle.sets.specs.Refusals.{Test, taken, refused, verdict, firstFailing, isKnown, isMask, isRowOf}
+use Rattle.sets.specs.Refusals.{Cause, Test, taken, refused, verdict, firstFailing, isKnown, isMask, isRowOf, because, configuration}
 use Rattle.sets.proofs.Order.{order-same, order-self}
 use Rattle.sets.proofs.Verdicts.{after-taken, after-refused}
 use Rattle.sizes.specs.Sizes.{sizesOf}
@@ -43,7 +43,7 @@ module _ (n : ℕ) (first second : List ℕ) where
   abbrev tests2 : List Test
   tests2 = isRowOf (configAt n) second
 
-  first-decides : {k : ℕ} → rowVerdict n first ≡ refused k → bothVerdict n first second ≡ refused k
+  first-decides : {k : Cause} → rowVerdict n first ≡ refused k → bothVerdict n first second ≡ refused k
   unfolding bothVerdict rowVerdict
   first-decides v = after-refused (isKnown n ∷ tests) tests2 v
 
@@ -106,7 +106,7 @@ module _ (n mask size : ℕ) (first second : List ℕ) where
 -- ---- 1, 6 and 7 before the rows
 
 pub known-taken : (n : ℕ) → known n ≡ true → firstFailing (isKnown n ∷ []) ≡ taken
-known-taken n k = ap (λ (b : Bool). cond b taken (refused 1)) k
+known-taken n k = ap (λ (b : Bool). cond b taken (refused (because configuration))) k
 
 module _ (n mask size : ℕ) (first second : List ℕ) where
   abbrev rowTests : List Test
@@ -118,7 +118,7 @@ module _ (n mask size : ℕ) (first second : List ℕ) where
   rows-unknown {x = x} e q =
       let u = unknown-of n x (sym e ∙ q) in
       refuses (λ x. orders.Refused x) (rowsShown n mask size first second)
-      (1, after-refused (isKnown n ∷ []) (isMask mask size ++ rowTests) (ap (λ (b : Bool). cond b taken (refused 1)) (u .0)), u .1)
+      (because configuration, after-refused (isKnown n ∷ []) (isMask mask size ++ rowTests) (ap (λ (b : Bool). cond b taken (refused (because configuration))) (u .0)), u .1)
 
   -- where 1, 6 and 7 pass, the rows decide
   rows-decide : known n ≡ true → verdict (isMask mask size) ≡ taken → rowsVerdict n mask size first second ≡ bothVerdict n first second

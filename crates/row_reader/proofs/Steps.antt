@@ -8,7 +8,7 @@ use lib.ListN.{length, getD}
 use Rattle.sets.specs.Sets.{Set, members}
 use Rattle.sets.specs.Configurations.{W, configAt}
 use Rattle.sets.specs.Masks.{givenAt, placeAfter}
-use Rattle.sets.specs.Refusals.{taken, refused}
+use Rattle.sets.specs.Refusals.{Cause, taken, refused}
 use Rattle.sets.specs.Row.{shownRow}
 use Rattle.sets.proofs.Configurations.{line-at}
 use Rattle.sets.proofs.Laws.{falls-at, members-fall, members-length, members-same}
@@ -105,11 +105,11 @@ module _ (n : ℕ) (bs : List ℕ) where
   unfolding stepPlace
   taken-place place v = rw v
 
-  refused-answer : (place k : ℕ) → rowVerdict n bs ≡ refused k → stepAnswer n bs place ≡ Refused (refusal k)
+  refused-answer : (place : ℕ) (k : Cause) → rowVerdict n bs ≡ refused k → stepAnswer n bs place ≡ Refused (refusal k)
   unfolding stepAnswer
   refused-answer place k v = rw v
 
-  refused-place : (place k : ℕ) → rowVerdict n bs ≡ refused k → stepPlace n bs place ≡ place
+  refused-place : (place : ℕ) (k : Cause) → rowVerdict n bs ≡ refused k → stepPlace n bs place ≡ place
   unfolding stepPlace
   refused-place place k v = rw v
 
@@ -125,7 +125,7 @@ module _ (n : ℕ) (bs : List ℕ) where
       ap₂ made (taken-answer place v ∙ ap givenTold (given-end ms place h))
       (taken-place place v ∙ place-stays (W (configAt n)) shownSet place h)
 
-  pub step-refused : (place k : ℕ) → rowVerdict n bs ≡ refused k → steppedAt n bs place ≡ made (Refused (refusal k)) place
+  pub step-refused : (place : ℕ) (k : Cause) → rowVerdict n bs ≡ refused k → steppedAt n bs place ≡ made (Refused (refusal k)) place
   step-refused place k v = ap₂ made (refused-answer place k v) (refused-place place k v)
 
   pub refuses : (place : ℕ) {j : RowAnswer} {r : Refusal} → j ≡ rowOf n bs → j ≡ rows.Refused r

@@ -11,7 +11,7 @@ use lib.Seq.{drop-cons}
 use denote.Ref.{RefT, now}
 use Rattle.sets.specs.Sets.{Set, members}
 use Rattle.sets.specs.Configurations.{W, known, configAt}
-use Rattle.sets.specs.Refusals.{taken, refused}
+use Rattle.sets.specs.Refusals.{Cause, taken, refused}
 use Rattle.sets.specs.Row.{row, shownRow}
 use Rattle.sets.proofs.Configurations.{line-at}
 use Rattle.sets.proofs.Laws.{members-same}
@@ -62,7 +62,7 @@ module _ (d : RowReader) (x : RowStep) (e : steppedAt (d .config) (now (d .row))
 
 -- ---- a row that no set has
 
-module _ (d : RowReader) (k : ℕ) (v : rowVerdict (d .config) (now (d .row)) ≡ refused k) where
+module _ (d : RowReader) (k : Cause) (v : rowVerdict (d .config) (now (d .row)) ≡ refused k) where
   -- each step answers as opening the row would
   pub refused-steps : (j : ℕ) → steps j d ≡ replicate j (Refused (refusal k))
   refused-steps = steps-stay d (Refused (refusal k)) (step-refused (d .config) (now (d .row)) (d .place) k v)

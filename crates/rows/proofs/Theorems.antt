@@ -13,7 +13,7 @@ use Rattle.sets.specs.Sets.{Agree, Set}
 use Rattle.sets.specs.Configurations.{Config, Sound, W, blocks, known, configAt}
 use Rattle.sets.specs.Filter.{FilterRecord, exactCountAt, filled, recordOf, topSlice, bitSlice}
 use Rattle.sets.specs.Row.{isRow, row, shownRow}
-use Rattle.sets.specs.Refusals.{Test, Verdict, taken, refused, answer, areasLent, filterLent, firstFailing, holdsRow, isRowOf}
+use Rattle.sets.specs.Refusals.{Test, Verdict, taken, refused, answer, areasLent, filterLent, firstFailing, holdsRow, isRowOf, because, buffer}
 use Rattle.sets.proofs.Areas.{holds-stands, stands-slices}
 use Rattle.sets.proofs.Beginnings.{Unnoticed, beginning-iff, cut-row, largest, largest-count}
 use Rattle.sets.proofs.Bytes.{Bytes}
@@ -72,7 +72,7 @@ module _ (f : Filter) (top bits : List ℕ) (S : Set) (o : Of f top bits S) wher
       let h : leb (length (rowBy f top bits)) (length to) ≡ true = ap (λ (b : List ℕ). leb (length b) (length to)) row-by ∙ le-leb _ _ l in
       let v : writeVerdict f top bits to ≡ taken =
       after-taken (filterLent (recordIn f) top bits) (holdsRow (rowBy f top bits) to ∷ []) (lent-taken (of-passes f top bits S o))
-      ∙ ap (λ (b : Bool). cond b taken (refused 3)) h in (
+      ∙ ap (λ (b : Bool). cond b taken (refused (because buffer))) h in (
         w .answers ∙ rw v (ap (λ (b : List ℕ). writes.Written (length b)) row-by),
         w .bytes ∙ rw v (ap (λ (b : List ℕ). filled b (length b) to) row-by),
       )

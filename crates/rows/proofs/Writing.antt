@@ -14,7 +14,7 @@ use Rattle.sets.specs.Sets.{Agree, Below, Empty}
 use Rattle.sets.specs.Words.{held}
 use Rattle.sets.specs.Configurations.{W, blocksFor, configAt}
 use Rattle.sets.specs.Filter.{boundary, filled, topList}
-use Rattle.sets.specs.Refusals.{Test, Verdict, taken, refused, answer, filterLent, firstFailing, holdsRow}
+use Rattle.sets.specs.Refusals.{Test, Verdict, taken, refused, answer, filterLent, firstFailing, holdsRow, Cause, because, buffer}
 use Rattle.sets.specs.Row.{bitPart, bytesOf, row, topBytes}
 use Rattle.sets.proofs.Bytes.{length-bytesOf}
 use Rattle.sets.proofs.Canon.{holds-canon}
@@ -132,14 +132,14 @@ module _ (f : Filter) (top bits to : List ℕ) where
   abbrev lent : List Test
   lent = filterLent (recordIn f) top bits
 
-  abbrev buffer : List Test
-  buffer = holdsRow (rowBy f top bits) to ∷ []
+  abbrev lastTest : List Test
+  lastTest = holdsRow (rowBy f top bits) to ∷ []
 
   -- the bytes left on a verdict
   abbrev leftBy : Verdict → List ℕ
   leftBy v = answer v (λ n. to) (filled (rowBy f top bits) (length (rowBy f top bits)) to)
 
-  not-written : {x : Refusal} → ((k : ℕ) × (writeVerdict f top bits to ≡ refused k) × (x ≡ refusal k))
+  not-written : {x : Refusal} → ((k : Cause) × (writeVerdict f top bits to ≡ refused k) × (x ≡ refusal k))
       → Writes f top bits to (writes.Refused x) to
   not-written w =
       record {
@@ -148,10 +148,10 @@ module _ (f : Filter) (top bits to : List ℕ) where
       }
 
   -- what the judge refuses, the call does
-  pub write-refused : {x : Refusal} → ((k : ℕ) × (firstFailing lent ≡ refused k) × (x ≡ refusal k))
+  pub write-refused : {x : Refusal} → ((k : Cause) × (firstFailing lent ≡ refused k) × (x ≡ refusal k))
       → Writes f top bits to (writes.Refused x) to
   unfolding writeVerdict
-  write-refused w = not-written (w .0, after-refused lent buffer (w .1), w .2)
+  write-refused w = not-written (w .0, after-refused lent lastTest (w .1), w .2)
 
   module _ {s : Sizes} (R : Writable f top bits s) {len : ℕ}
       (e : len ≡ f .count * s .entry + cond (eqb (f .boundary) 0) 0 (1 + 8 * blocksFor (f .boundary))) where
@@ -159,14 +159,14 @@ module _ (f : Filter) (top bits to : List ℕ) where
     len-is = omega (arith, e, row-long R, length-bitPart (f .boundary) (held bits))
 
     -- 3 for the buffer is left
-    by-buffer : writeVerdict f top bits to ≡ cond (leb (length (rowBy f top bits)) (length to)) taken (refused 3)
+    by-buffer : writeVerdict f top bits to ≡ cond (leb (length (rowBy f top bits)) (length to)) taken (refused (because buffer))
     unfolding writeVerdict
-    by-buffer = after-taken lent buffer (R .told .takenIs)
+    by-buffer = after-taken lent lastTest (R .told .takenIs)
 
-    pub write-short : length to < len → Writes f top bits to (writes.Refused (refusal 3)) to
+    pub write-short : length to < len → Writes f top bits to (writes.Refused (refusal (because buffer))) to
     write-short h =
         let l : length to < length (rowBy f top bits) = omega (arith, len-is) in
-        not-written (3, by-buffer ∙ ap (λ (b : Bool). cond b taken (refused 3)) (lt-leb _ _ l), refl)
+        not-written (because buffer, by-buffer ∙ ap (λ (b : Bool). cond b taken (refused (because buffer))) (lt-leb _ _ l), refl)
 
     pub write-done : {r : ℕ} {to₁ to₂ : List ℕ} → len ≤ length to → to₁ ≡ sets to 0 (entryBytes R)
         → r ≡ f .count * s .entry + length (part R)
@@ -174,7 +174,7 @@ module _ (f : Filter) (top bits to : List ℕ) where
     write-done {r} {to₁} {to₂} h x y z =
         let row = rowBy f top bits in
         let l : length row ≤ length to = omega (arith, len-is) in
-        let t = by-buffer ∙ ap (λ (b : Bool). cond b taken (refused 3)) (le-leb _ _ l) in
+        let t = by-buffer ∙ ap (λ (b : Bool). cond b taken (refused (because buffer))) (le-leb _ _ l) in
         record {
           answers = takes (λ x. writes.Refused x) (writes.Written (length row)) t (ap (λ (n : ℕ). writes.Written n) (y ∙ sym (row-long R)));
           bytes = z ∙ ap (λ (l : List ℕ). sets l (f .count * s .entry) (part R)) x ∙ row-left R to l ∙ ap leftBy (sym t);

@@ -117,7 +117,7 @@ pub fn write(f: Filter, top: &[u32], blocks: &[u64], to: &mut [u8]) -> WriteAnsw
         SizesAnswer::Known(s) => {
             let len = row_len(f.count, s.entry, f.boundary);
             if to.len() < len {
-                return WriteAnswer::Refused(Refusal { number: 3 });
+                return WriteAnswer::Refused(sizes::BUFFER);
             }
             write_entries(to, s.entry, top, f.count);
             WriteAnswer::Written(bitvec::write(to, f.count * s.entry, blocks, f.boundary))

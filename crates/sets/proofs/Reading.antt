@@ -18,8 +18,9 @@ use Rattle.sets.specs.Configurations.{Config, Sound, W, blocksFor, longe
 use Rattle.sets.specs.Row.{bitPart, bytesOf, faultless, numbers, row, rowBlockCount, rowBlocks, rowBoundary, rowEntries, shownRow}
 use Rattle.sets.specs.Row.{spareByte, topBytes}
 use Rattle.sets.specs.Row.{Fault, countFault, entriesFit, fallFault, highFault, isRow, lengthFits, lowest, nowhere, place, rising}
-use Rattle.sets.specs.Row.{sound, spareFault}
-use Rattle.sets.specs.Refusals.{Verdict, isRowOf, refused, taken, verdict}
+use Rattle.sets.specs.Row.{placeOf, sound, spareFault}
+use Rattle.sets.specs.Refusals.{Cause, Reason, Verdict, because, becauseAt, isRowOf, refused, taken, verdict}
+use Rattle.sets.specs.Refusals.{blockCount, fall, high, range, rowLength, spare}
 use Rattle.sets.proofs.Laws.{below-in, below-out, onward-none, onward-none-back, falls-at}
 use Rattle.sets.proofs.Words.{held-word, word-same}
 use Rattle.sets.proofs.Lists.{below-drop, getD-tabulate, length-tabulate}
@@ -301,19 +302,24 @@ module _ (c : Config) (s : Sound c) where
 
 -- ---- and so does the call's verdict
 
-taken≢refused : (n : ℕ) → refused n ≡ taken → ⊥
-taken≢refused n e = let z : _≡_ {A = ℕ} 0 1 = cc in omega arith
+taken≢refused : (k : Cause) → refused k ≡ taken → ⊥
+taken≢refused k e = let z : _≡_ {A = ℕ} 0 1 = cc in omega arith
 
-taken-one : (a : Bool) (n : ℕ) → (cond a taken (refused n) ≡ taken) ↔ (a ≡ true)
-taken-one true n = (λ e. refl, λ e. refl)
-taken-one false n = (λ e. absurd (taken≢refused n e), λ e. absurd (true≢false (sym e)))
+taken-one : (a : Bool) (k : Cause) → (cond a taken (refused k) ≡ taken) ↔ (a ≡ true)
+taken-one true k = (λ e. refl, λ e. refl)
+taken-one false k = (λ e. absurd (taken≢refused k e), λ e. absurd (true≢false (sym e)))
 
-taken-and : (a b : Bool) (n : ℕ) (v : Verdict) → (v ≡ taken) ↔ (b ≡ true) → (cond a v (refused n) ≡ taken) ↔ ((a && b) ≡ true)
-taken-and true b n v h = h
-taken-and false b n v h = (λ e. absurd (taken≢refused n e), λ e. absurd (true≢false (sym e)))
+taken-and : (a b : Bool) (k : Cause) (v : Verdict) → (v ≡ taken) ↔ (b ≡ true) → (cond a v (refused k) ≡ taken) ↔ ((a && b) ≡ true)
+taken-and true b k v h = h
+taken-and false b k v h = (λ e. absurd (taken≢refused k e), λ e. absurd (true≢false (sym e)))
 
 pub verdict-row : (c : Config) (bs : List ℕ) → (verdict (isRowOf c bs) ≡ taken) ↔ (isRow c bs ≡ true)
 unfolding isRow
 verdict-row c bs =
-    taken-and (lengthFits c bs) _ 4 _ (taken-and (entriesFit c bs) _ 2 _ (taken-and (sound (fallFault c bs)) _ 5 _
-    (taken-and (sound (countFault c bs)) _ 5 _ (taken-and (sound (spareFault c bs)) _ 5 _ (taken-one (sound (highFault c bs)) 5)))))
+    taken-and (lengthFits c bs) _ (because rowLength) _ (taken-and (entriesFit c bs) _ (because range) _
+    (by-fault fall (fallFault c bs) (by-fault blockCount (countFault c bs) (by-fault spare (spareFault c bs)
+    (taken-one (sound (highFault c bs)) (becauseAt high (placeOf (highFault c bs))))))))
+  where
+    by-fault : (x : Reason) (f : Fault) {b : Bool} {v : Verdict} → (v ≡ taken) ↔ (b ≡ true)
+        → (cond (sound f) v (refused (becauseAt x (placeOf f))) ≡ taken) ↔ ((sound f && b) ≡ true)
+    by-fault x f {b} {v} h = taken-and (sound f) b (becauseAt x (placeOf f)) v h

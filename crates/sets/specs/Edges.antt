@@ -37,11 +37,11 @@ down (suc n) last = (last + n) ∷ down n last
 -- 0 where taken
 abbrev pub refusedBy : Verdict → ℕ
 refusedBy taken = 0
-refusedBy (refused n) = n
+refusedBy (refused k) = k .number
 
-abbrev pub placeOf : Fault → List ℕ
-placeOf nowhere = []
-placeOf (place b) = b ∷ []
+abbrev pub placesOf : Fault → List ℕ
+placesOf nowhere = []
+placesOf (place b) = b ∷ []
 
 pub data Case : Type 0 where
   -- W, blocks, position bits, window blocks, longest row, whole key slots, leftover key bits
@@ -86,10 +86,10 @@ holds (shows bytes ps) =
 holds (refusesRow bytes number) = eqb (refusedBy (verdict (isRowOf seven bytes))) number
 holds (faultsAt bytes places) =
     same
-    (placeOf (fallFault seven bytes)
-    ++ placeOf (countFault seven bytes)
-    ++ placeOf (spareFault seven bytes)
-    ++ placeOf (highFault seven bytes))
+    (placesOf (fallFault seven bytes)
+    ++ placesOf (countFault seven bytes)
+    ++ placesOf (spareFault seven bytes)
+    ++ placesOf (highFault seven bytes))
     places
 holds (bitPartIs toggled long edge spare block) =
     let bytes = row seven (flipped toggled) in

@@ -87,6 +87,10 @@ abbrev pub sound : Fault → Bool
 sound nowhere = true
 sound (place b) = false
 
+abbrev pub placeOf : Fault → ℕ
+placeOf nowhere = 0
+placeOf (place b) = b
+
 -- the top entries fall: the place of the first that is not below the one before (2 has passed, so the first is below W)
 abbrev pub rising : ℕ → ℕ → ℕ → List ℕ → Fault
 rising width at before [] = nowhere

@@ -13,7 +13,7 @@ use Rattle.sets.specs.Configurations.{Config, W, configAt}
 use Rattle.sets.specs.Filter.{exactCountAt, limitedCountAt, limitedBoundAt}
 use Rattle.sets.specs.Masks.{Ordering, less, equal, greater, orderOf, keyOf}
 use Rattle.sets.specs.Row.{shownRow}
-use Rattle.sets.specs.Refusals.{Verdict, taken, refused, verdict, isMask, isRowOf}
+use Rattle.sets.specs.Refusals.{Verdict, taken, refused, verdict, number, configuration, textForm, isMask, isRowOf}
 
 -- the bytes of a text
 abbrev pub text : String → List ℕ
@@ -31,11 +31,11 @@ andThen (refusedAt n line) f = refusedAt n line
 
 -- 11: "the program's text is malformed"
 abbrev pub malformed : {A : Type 0} → ℕ → Judged A
-malformed line = refusedAt 11 line
+malformed line = refusedAt (number textForm) line
 
 abbrev pub unlessRefused : {A : Type 0} → Verdict → ℕ → A → Judged A
 unlessRefused taken line a = is a
-unlessRefused (refused n) line a = refusedAt n line
+unlessRefused (refused k) line a = refusedAt (k .number) line
 
 abbrev pub orMalformed : {A B : Type 0} → Option A → ℕ → (A → Judged B) → Judged B
 orMalformed none line f = malformed line
@@ -128,7 +128,7 @@ bareConfig = 7
 abbrev pub numbered : List ℕ → Judged ℕ
 numbered ds =
     cond (all isDigit ds && (eqb (length ds) 1 || eqb (length ds) 2))
-    (cond (same ds (text "7")) (is 7) (cond (same ds (text "10")) (is 10) (refusedAt 1 1)))
+    (cond (same ds (text "7")) (is 7) (cond (same ds (text "10")) (is 10) (refusedAt (number configuration) 1)))
     (malformed 1)
 
 unfoldable pub configLine : List ℕ → Judged ℕ

@@ -4,7 +4,7 @@ use mathlib.Core.Bool.{Bool, true, false, cond}
 use Prim.Native.Nat.{ℕ}
 use native.Mathlib.Omega.{arith}
 use Rattle.sets.specs.Configurations.{known}
-use Rattle.sets.specs.Refusals.{answer, taken, refused}
+use Rattle.sets.specs.Refusals.{answer, because, configuration, taken, refused}
 use Rattle.sizes.specs.Sizes.{sizesAt, sizesOf, refusal}
 use Rattle.sizes.specs.declared.Sizes.{Sizes}
 use Rattle.sizes.specs.declared.Refusal.{Refusal}
@@ -12,7 +12,7 @@ use Rattle.sizes.specs.declared.SizesAnswer.{SizesAnswer}
 use Rattle.sizes.specs.declared.SizesAnswer.the-variants.{Known, Refused}
 
 abbrev told : ℕ → Bool → SizesAnswer
-told n b = answer (cond b taken (refused 1)) (λ r. Refused (refusal r)) (Known (sizesAt n))
+told n b = answer (cond b taken (refused (because configuration))) (λ r. Refused (refusal r)) (Known (sizesAt n))
 
 pub known-of : (n : ℕ) (s : Sizes) → sizesOf n ≡ Known s → (known n ≡ true) × (s ≡ sizesAt n)
 unfolding sizesOf
@@ -24,11 +24,11 @@ known-of n s e = go (known n) e
         let z : _≡_ {A = ℕ} 0 1 = cc in
         absurd (omega arith)
 
-pub unknown-of : (n : ℕ) (x : Refusal) → sizesOf n ≡ Refused x → (known n ≡ false) × (x ≡ refusal 1)
+pub unknown-of : (n : ℕ) (x : Refusal) → sizesOf n ≡ Refused x → (known n ≡ false) × (x ≡ refusal (because configuration))
 unfolding sizesOf
 unknown-of n x e = go (known n) e
   where
-    go : (b : Bool) → told n b ≡ Refused x → (b ≡ false) × (x ≡ refusal 1)
+    go : (b : Bool) → told n b ≡ Refused x → (b ≡ false) × (x ≡ refusal (because configuration))
     go true e =
         let z : _≡_ {A = ℕ} 0 1 = cc in
         absurd (omega arith)

@@ -2,7 +2,7 @@
 use mathlib.Core.List.{[], _∷_}
 use Prim.Native.Nat.{ℕ}
 use Rattle.sets.specs.Configurations.{Config, configAt, W, blocks, positionBits, windowBlocks, longestRow}
-use Rattle.sets.specs.Refusals.{verdict, answer, isKnown}
+use Rattle.sets.specs.Refusals.{Cause, verdict, answer, isKnown}
 use Rattle.sizes.specs.declared.Sizes.{Sizes}
 use Rattle.sizes.specs.declared.Refusal.{Refusal}
 use Rattle.sizes.specs.declared.SizesAnswer.{SizesAnswer}
@@ -22,8 +22,8 @@ sizes c =
       longest = longestRow c;
     }
 
-abbrev pub refusal : ℕ → Refusal
-refusal n = record { number = n }
+abbrev pub refusal : Cause → Refusal
+refusal k = record { number = k .number }
 
 unfoldable pub sizesAt : ℕ → Sizes
 sizesAt n = sizes (configAt n)

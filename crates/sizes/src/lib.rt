@@ -28,6 +28,37 @@ pub struct Refusal {
     pub number: u8,
 }
 
+// What is told of a test that fails, by the names of its reason in the definitions.
+pub const CONFIGURATION: Refusal = Refusal { number: 1 };
+
+pub const RANGE: Refusal = Refusal { number: 2 };
+
+pub const ROOM: Refusal = Refusal { number: 3 };
+
+pub const BUFFER: Refusal = Refusal { number: 3 };
+
+pub const ROW_LENGTH: Refusal = Refusal { number: 4 };
+
+pub const FALL: Refusal = Refusal { number: 5 };
+
+pub const BLOCK_COUNT: Refusal = Refusal { number: 5 };
+
+pub const SPARE: Refusal = Refusal { number: 5 };
+
+pub const HIGH: Refusal = Refusal { number: 5 };
+
+pub const MASK_SIZE: Refusal = Refusal { number: 6 };
+
+pub const MASK_BITS: Refusal = Refusal { number: 7 };
+
+pub const SOUNDNESS: Refusal = Refusal { number: 8 };
+
+pub const LIKENESS: Refusal = Refusal { number: 9 };
+
+pub const SLOT: Refusal = Refusal { number: 10 };
+
+pub const TEXT_FORM: Refusal = Refusal { number: 11 };
+
 pub enum SizesAnswer {
     Known(Sizes),
     Refused(Refusal),
@@ -71,6 +102,6 @@ pub fn sizes_of(config: u64) -> SizesAnswer
             window: 700,
             longest: 68049,
         }),
-        _ => SizesAnswer::Refused(Refusal { number: 1 }),
+        _ => SizesAnswer::Refused(CONFIGURATION),
     }
 }
