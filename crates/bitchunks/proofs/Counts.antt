@@ -1,6 +1,6 @@
 -- Members counted: those of a filter, the last top entry, and the limited count. Assumes nothing.
 use mathlib.Core.Path.{◌≡◌, refl, sym, ap, ap₂, ◌∙◌}
-use mathlib.Core.Bool.{Bool, true, false, cond, and_false, ◌&&◌}
+use mathlib.Core.Bool.{Bool, true, false, cond, and-false, ◌&&◌}
 use mathlib.Core.List.{List}
 use Prim.Native.Nat.{ℕ, suc, ◌+◌, ◌-◌, ◌*◌, ◌/◌, ◌%◌, ◌^◌, ◌≤◌, ◌<◌, min}
 use native.Mathlib.Decide.{dec_le, dec_lt, ℕ_discrete}
@@ -48,7 +48,7 @@ module _ {m k : ℕ} {top blocks : List ℕ} {count edge : ℕ} {S : Set} (z : 0
       (λ p l. ap₂ ◌&&◌ (here p l (dec_le (64 * a) p)) (holds_bits H p (omega (arith, H.edge_is, edge_within))))
       ∙ sym (members_gap (onward (64 * a) B) (64 * n) (64 * k) (omega (arith, H.edge_is, edge_within))
       (λ p u l. ap (◌&&◌ (leb (64 * a) p)) (below_out (boundary m (64 * k) S) S p (omega (arith, H.edge_is)))
-      ∙ and_false (leb (64 * a) p))))
+      ∙ and-false (leb (64 * a) p))))
     where
       here : (p : ℕ) → p < 64 * n → Dec (64 * a ≤ p) → leb (64 * from) p ≡ leb (64 * a) p
       here p l (yes h) = le-leb (64 * from) p (omega arith) ∙ sym (le-leb (64 * a) p h)

@@ -1,6 +1,6 @@
 -- The walk past the blocks in which a mask keeps no member, and the members given one by one. Assumes nothing.
 use mathlib.Core.Path.{◌≡◌, refl, sym, ap, ap₂, ◌∙◌, subst}
-use mathlib.Core.Bool.{Bool, false, cond, and_false}
+use mathlib.Core.Bool.{Bool, false, cond, and-false}
 use mathlib.Core.List.{List, [], ◌∷◌}
 use Prim.Native.Nat.{ℕ, suc, ◌+◌, ◌-◌, ◌*◌, ◌^◌, ◌≤◌, ◌<◌}
 use native.Mathlib.Decide.{dec_lt}
@@ -39,7 +39,7 @@ module _ {S : Set} {tops : List ℕ} {mask size start passed end : ℕ} (t : Ski
   skip_gap k g p a b = go (dec_lt p (64 * end))
     where
       go : Dec (p < 64 * end) → kept mask size S p ≡ false
-      go (yes h) = kept_same mask size S none p (g p a h) ∙ and_false (laid mask size p)
+      go (yes h) = kept_same mask size S none p (g p a h) ∙ and-false (laid mask size p)
       go (no h) = t.empty p (omega arith) b
 
   pub skip_none : {r : NextChunk} → r ≡ Nothing → Next S tops end r → Empty (kept mask size S) 0 (64 * start)

@@ -1,6 +1,6 @@
 -- The two areas of a filter, from what is left when its largest buckets are taken out of the blocks. Assumes nothing.
 use mathlib.Core.Path.{◌≡◌, sym, ap, ◌∙◌}
-use mathlib.Core.Bool.{and_false, ◌&&◌}
+use mathlib.Core.Bool.{and-false, ◌&&◌}
 use mathlib.Core.List.{List}
 use Prim.Native.Nat.{ℕ, ◌+◌, ◌-◌, ◌*◌, ◌/◌, ◌%◌, ◌^◌, ◌≤◌, ◌<◌, min}
 use native.Mathlib.Decide.{dec_lt}
@@ -54,7 +54,7 @@ lifted_more {m} {n} {k} {top₀} {blocks₀} {top} {blocks} {r} h clear l =
     go p a (no b) =
         let z = clear p (omega arith) a in
         same_held n blocks blocks₀ l.bit_rest p (omega arith) ∙ z
-        ∙ sym (ap (◌&&◌ (ltb p (boundary m (64 * k) S))) z ∙ and_false (ltb p (boundary m (64 * k) S)))
+        ∙ sym (ap (◌&&◌ (ltb p (boundary m (64 * k) S))) z ∙ and-false (ltb p (boundary m (64 * k) S)))
 
 module _ {m n k : ℕ} {top₀ blocks₀ top₁ top blocks : List ℕ} {r : ℕ} (room : Room m k top₀ blocks₀) (h : n ≤ k)
     (clear : Empty (held blocks₀) (64 * n) (64 * k))

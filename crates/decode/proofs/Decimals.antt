@@ -1,6 +1,6 @@
 -- Digits read one by one, and decimals. Assumes nothing.
 use mathlib.Core.Path.{◌≡◌, refl, sym, ap, ◌∙◌}
-use mathlib.Core.Bool.{Bool, true, false, true≢false, not, and_false, ◌&&◌}
+use mathlib.Core.Bool.{Bool, true, false, true≢false, not, and-false, ◌&&◌}
 use mathlib.Core.List.{List, [], ◌∷◌}
 use mathlib.Core.Logic.{◌⊎◌, inl, inr}
 use Prim.Native.Nat.{ℕ, ◌+◌, ◌-◌, ◌*◌, ◌/◌, ◌^◌, ◌≤◌, ◌<◌}
@@ -52,7 +52,7 @@ not_spelled : (s : List ℕ) → all is_digit s ≡ false → number.Malformed �
 not_spelled s e = rw e
 
 too_large : (s : List ℕ) → 2 ^ 64 ≤ decimal_from 0 s → number.Malformed ≡ number_in (spelled s)
-too_large s h = rw (le-ltb (decimal_from 0 s) (2 ^ 64) h, and_false (all is_digit s))
+too_large s h = rw (le-ltb (decimal_from 0 s) (2 ^ 64) h, and-false (all is_digit s))
 
 module _ {s : List ℕ} {n i : ℕ} (t : Spelling s n i) where
   module _ (h : i < length s) (x : ℕ) (e : x ≡ hex_value (get_or s i 0)) where
@@ -86,7 +86,7 @@ pub decimal_zero : (s : List ℕ) → (length s ≡ 0 → ⊥) → get_or s 0 0 
     → number.Malformed ≡ number_in (decimal s)
 decimal_zero [] n e m = absurd (n refl)
 decimal_zero (b ∷ []) n e m = absurd (true≢false (sym m))
-decimal_zero (b ∷ d ∷ ds) n e m = rw (eq-eqb b 48 e, and_false (all is_digit (b ∷ d ∷ ds)))
+decimal_zero (b ∷ d ∷ ds) n e m = rw (eq-eqb b 48 e, and-false (all is_digit (b ∷ d ∷ ds)))
 
 -- with no leading zero the digits decide
 pub decimal_spelled : (s : List ℕ) → (length s ≡ 0 → ⊥) → (not (eqb (length s) 1) ≡ false) ⊎ (get_or s 0 0 ≡ 48 → ⊥)

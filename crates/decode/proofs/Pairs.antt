@@ -1,6 +1,6 @@
 -- Bytes read from pairs of hexadecimal digits. Assumes nothing.
 use mathlib.Core.Path.{◌≡◌, refl, sym, ap, ap₂, ◌∙◌}
-use mathlib.Core.Bool.{Bool, true, false, and_false, ◌&&◌}
+use mathlib.Core.Bool.{Bool, true, false, and-false, ◌&&◌}
 use mathlib.Core.List.{List, [], ◌∷◌, ◌++◌, append_assoc, append-nil}
 use mathlib.Core.Logic.{◌⊎◌, inl, inr}
 use mathlib.Core.Option.{none, some}
@@ -16,7 +16,7 @@ use Rattle.decode.specs.Parts.{hex_value}
 use Rattle.decode.proofs.Values.{hex_is, hex_not, next}
 
 pub odd_hex : (s : List ℕ) → (length s % 2 ≡ 0 → ⊥) → from_hex s ≡ none
-odd_hex s n = rw (ne_eqb (length s % 2) 0 n, and_false (all is_hex s))
+odd_hex s n = rw (ne_eqb (length s % 2) 0 n, and-false (all is_hex s))
 
 -- i bytes are decoded of n
 pub record Decoding (s to₀ : List ℕ) (n : ℕ) (to : List ℕ) (i : ℕ) : Type 0 where
@@ -59,7 +59,7 @@ module _ {s to₀ : List ℕ} {n : ℕ} {to : List ℕ} {i : ℕ} (t : Decoding 
       where
         stops : (15 < x) ⊎ (ltb 15 y ≡ true) → all is_hex s ≡ false
         stops (inl l) = tells (hex_not high (omega arith)) refl
-        stops (inr l) = tells refl (hex_not low (omega (arith, ltb-true 15 y l))) ∙ and_false (is_hex high)
+        stops (inr l) = tells refl (hex_not low (omega (arith, ltb-true 15 y l))) ∙ and-false (is_hex high)
 
     pub decoding_turn : x ≤ 15 → ltb 15 y ≡ false → Decoding s to₀ n (set to i (16 * x + y)) (i + 1)
     decoding_turn l m =

@@ -1,6 +1,6 @@
 -- What a hexadecimal digit stands for, and which bytes are digits; bytes taken one by one. Assumes nothing.
 use mathlib.Core.Path.{◌≡◌, refl}
-use mathlib.Core.Bool.{Bool, true, false, cond, and_false, ◌&&◌, ◌||◌}
+use mathlib.Core.Bool.{Bool, true, false, cond, and-false, ◌&&◌, ◌||◌}
 use mathlib.Core.List.{List, ◌∷◌}
 use mathlib.Core.Logic.{◌⊎◌, inl, inr}
 use Prim.Native.Nat.{ℕ, ◌+◌, ◌-◌, ◌≤◌, ◌<◌}
@@ -24,7 +24,7 @@ letter b = leb 97 b && leb b 102
 -- ---- value: a proof knows the second test of an `&&` by what it computes
 
 outside : (a b c : ℕ) → (leb b c ≡ false) ⊎ (b < a) → (leb a b && leb b c) ≡ false
-outside a b c (inl h) = rw (h, and_false (leb a b))
+outside a b c (inl h) = rw (h, and-false (leb a b))
 outside a b c (inr h) = rw (lt-leb a b h)
 
 pub digit_value : (b : ℕ) → 48 ≤ b → leb b 57 ≡ true → b - 48 ≡ hex_value b

@@ -1,6 +1,6 @@
 -- What holds of every line's sizes, how a row's length is judged, and where the row's parts stand. Assumes nothing.
 use mathlib.Core.Path.{◌≡◌, sym, ap, ◌∙◌, subst}
-use mathlib.Core.Bool.{Bool, true, false, ◌&&◌, ◌||◌, and-true, and_false, or-false}
+use mathlib.Core.Bool.{Bool, true, false, ◌&&◌, ◌||◌, and-true, and-false, or-false}
 use mathlib.Core.List.{List}
 use Prim.Native.Nat.{ℕ, ◌+◌, ◌-◌, ◌*◌, ◌/◌, ◌%◌, ◌^◌, ◌≤◌, ◌<◌, min}
 use native.Mathlib.Omega.{arith}
@@ -56,7 +56,7 @@ module _ (row : List ℕ) (s : Sizes) (n : ℕ) (e : s ≡ sizes_at n) where
 
     module _ (l : s.top * s.entry < length row) where
       past : fits s row ≡ (leb (s.top * s.entry + 9) (length row) && eqb ((length row - (s.top * s.entry + 1)) % 8) 0)
-      past = rw (le-leb (length row) s.longest h, lt-leb (length row) (s.top * s.entry) l, and_false (eqb (length row % s.entry) 0))
+      past = rw (le-leb (length row) s.longest h, lt-leb (length row) (s.top * s.entry) l, and-false (eqb (length row % s.entry) 0))
 
       pub with_blocks : s.top * s.entry + 9 ≤ length row
           → eqb ((length row - (s.top * s.entry + 1)) % 8) 0 ≡ length_fits (config_at n) row

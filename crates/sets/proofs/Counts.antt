@@ -1,6 +1,6 @@
 -- The laws of the exact and the limited count. Assumes nothing.
 use mathlib.Core.Path.{◌≡◌, sym, ap, ap₂, ◌∙◌}
-use mathlib.Core.Bool.{Bool, true, false, cond, and_false, ◌&&◌}
+use mathlib.Core.Bool.{Bool, true, false, cond, and-false, ◌&&◌}
 use mathlib.Core.List.{List, [], ◌∷◌}
 use Prim.Native.Nat.{ℕ, suc, ◌+◌, ◌-◌, ◌*◌, ◌/◌, ◌≤◌, ◌<◌, min}
 use native.Mathlib.Decide.{le_ind, dec_lt}
@@ -108,7 +108,7 @@ module _ (m n : ℕ) (S : Set) (z : 0 < m) where
         go (yes f) =
             let none : members (onward start (below edge S)) n ≡ [] =
             members_none (onward start (below edge S)) n (λ p h. ap (◌&&◌ (leb start p))
-            (below_out edge S p (omega (arith, few_edge f))) ∙ and_false (leb start p)) in
+            (below_out edge S p (omega (arith, few_edge f))) ∙ and-false (leb start p)) in
             omega (arith, ap length none, members_onward S start (last_entry m n S) low_last, few_rest f)
         go (no f) =
             let e : last_entry m n S ≡ edge = full_last (omega arith) in

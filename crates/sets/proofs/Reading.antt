@@ -28,7 +28,7 @@ use Rattle.sets.proofs.Tests.{and_intro, and_left, and_right, below_all, or_case
 use Rattle.sets.proofs.Split.{Split, joined_bit, joined_edge, joined_top}
 use Rattle.sets.proofs.Bytes.{Bytes, length_bytes_of, length_numbers, numbers_below, bytes_of_numbers}
 use Rattle.sets.proofs.Rows.{bit_part_none, bit_part_some, edge_of, row_bits, row_bits_held, tops_of, tops_split}
-use Rattle.sets.proofs.Rows.{row_bits, row_block_count_lem, row_blocks_lem, row_boundary_lem, row_cases, row_entries_lem, row_longest, row_same}
+use Rattle.sets.proofs.Rows.{row_bits_lem, row_block_count_lem, row_blocks_lem, row_boundary_lem, row_cases, row_entries_lem, row_longest, row_same}
 use Rattle.sets.proofs.Rows.{shown_row_lem}
 
 -- ---- the four tests of refusal 5, as facts
@@ -149,7 +149,7 @@ module _ (c : Config) (s : Sound c) (S : Set) where
       row_cases c s S
       (λ e l. absurd (n e))
       (λ e f l.
-      ap (λ (bs : List ℕ). get_or bs (top_bytes c) 0) (row_bits c S e)
+      ap (λ (bs : List ℕ). get_or bs (top_bytes c) 0) (row_bits_lem c S e)
       ∙ get_or_at xs (spare_byte (edge_of c S)) (bytes_of 8 (row_bits (edge_of c S) S)) 0 (top_bytes c)
       (length_bytes_of c.entry (tops_of c S) ∙ ap (λ (x : ℕ). x * c.entry) f))
 

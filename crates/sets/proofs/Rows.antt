@@ -97,10 +97,10 @@ module _ (c : Config) (S : Set) where
       (bytes_of_below c.entry (tops_of c S)) (bit_part_below (edge_of c S) S)
 
   -- the row where it has a bit part
-  pub row_bits : (edge_of c S ≡ 0 → ⊥)
+  pub row_bits_lem : (edge_of c S ≡ 0 → ⊥)
       → row c S ≡ bytes_of c.entry (tops_of c S) ++ (spare_byte (edge_of c S) ∷ bytes_of 8 (row_bits (edge_of c S) S))
   unfolding row
-  row_bits e = ap (◌++◌ (bytes_of c.entry (tops_of c S))) (bit_part_some (edge_of c S) S e)
+  row_bits_lem e = ap (◌++◌ (bytes_of c.entry (tops_of c S))) (bit_part_some (edge_of c S) S e)
 
 module _ (c : Config) (s : Sound c) (S : Set) where
   pub tops_split : Split c.M (W c) (tops_of c S) (edge_of c S)
@@ -173,7 +173,7 @@ module _ (c : Config) (s : Sound c) (S : Set) where
   drop_tops e f =
       let xs : List ℕ = bytes_of c.entry (tops_of c S) in
       let a : top_bytes c ≡ length xs = ap (λ (x : ℕ). x * c.entry) (sym f) ∙ sym (length_bytes_of c.entry (tops_of c S)) in
-      ap₂ (λ (x : ℕ) (l : List ℕ). drop (x + 1) l) a (row_bits c S e) ∙ drop-append-add xs _ 1
+      ap₂ (λ (x : ℕ) (l : List ℕ). drop (x + 1) l) a (row_bits_lem c S e) ∙ drop-append-add xs _ 1
 
   pub row_blocks_lem : row_blocks c (row c S) ≡ row_bits (edge_of c S) S
   unfolding row_blocks from
