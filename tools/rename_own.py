@@ -14,6 +14,8 @@ import re
 TOKEN = re.compile(r"[\w'′·-]+")
 MARKS = r"(?:(?:pattern|unfoldable|abbrev|pub|axiom) )*"
 NAME = r"[^\s:{}()|=,.\[\]]+"
+# bound names that are written with capitals
+VARIABLES = {"onRefusal": "on_refusal", "isIn": "is_in", "toBits'": "to_bits'", "toBits₀": "to_bits₀"}
 TYPE = re.compile(r"^(?:pub |abbrev |unfoldable )*(record|data) (\S+)")
 
 
@@ -42,9 +44,10 @@ def declared():
                 names[m[2]].add("type")
                 continue
             if block:
-                m = re.match(rf"^  (?:pub )?({NAME}) :(?: |$)", line)
+                m = re.match(rf"^  (?:pub )?({NAME}(?: {NAME})*) :(?: |$)", line)
                 if m:
-                    names[m[1]].add(block)
+                    for name in m[1].split():
+                        names[name].add(block)
                     continue
             if re.match(r"^\S", line):
                 block = None
@@ -71,18 +74,24 @@ def new_names(names):
     for to, group in groups.items():
         for name in group:
             lemma = names[name] <= {"lemma"}
-            other = any(not names[g] <= {"lemma"} for g in group if g != name)
+            other = any(not names[g] <= {"lemma"} or ("-" in name and "-" not in g) for g in group if g != name)
             if len(group) > 1 and lemma and other:
                 new[name] = to + "_lem"
             elif to != name:
                 new[name] = to
-    return new
+    return new | VARIABLES
 
 
 def turn(text, new, own_proof):
+    # what a file takes from a library under the spelling of one of our names stays
+    taken = set()
+    for m in re.finditer(r"^use ([\w.]+)\.\{([^}]*)\}", text, re.M):
+        if m[1].split(".")[0] in ("mathlib", "native", "lib", "Prim", "borrow") or m[1].startswith("Rattle.std."):
+            taken |= set(re.split(r",\s*", m[2].strip()))
+
     def one(m):
         word = m[0]
-        if word not in new:
+        if word not in new or word in taken:
             return word
         # behind a dot a name with a dash is one that Rattle made of the source, but for a name taken from an own module
         if own_proof and "-" in word and m.start() and text[m.start() - 1] == ".":

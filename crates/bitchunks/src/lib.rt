@@ -1,4 +1,6 @@
 // Walks over the blocks of a set, from the top block down (config/bitchunks.rs).
+#![tactic(auto)]
+
 ghost use Rattle.std.specs.Prelude.{◌≡◌, cond, ◌&&◌, ◌⊎◌, List, ℕ, suc, ◌+◌, ◌-◌, ◌*◌, ◌%◌, ◌^◌, ◌<◌, ◌≤◌, max, min, eqb, leb, length, take, drop};
 ghost use Rattle.std.specs.Int.Bits.{bit_and, bit_or};
 ghost use Rattle.sets.specs.Sets.{Set, apart, members, onward};

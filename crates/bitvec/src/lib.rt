@@ -1,5 +1,7 @@
 // Blocks of 64 bits in lent memory, as a set of buckets (diff_count/bitvec.rs), and the two steps between such blocks and a
 // filter's areas, fold and split.
+#![tactic(auto)]
+
 ghost use Rattle.std.specs.Prelude.{◌≡◌, ◌+◌, ◌-◌, ◌*◌, ◌/◌, ◌^◌, ◌<◌, ◌≤◌, length, take, drop};
 ghost use Rattle.std.proofs.lemmas.List.Edits.{sets};
 ghost use Rattle.std.specs.Int.Count.{ones};

@@ -1,4 +1,6 @@
 // A bucket's place in blocks of 64 bits (config/buckets.rs).
+#![tactic(auto)]
+
 ghost use Rattle.std.specs.Prelude.{◌≡◌, ◌+◌, ◌-◌, ◌*◌, ◌/◌, ◌%◌, ◌^◌, ◌<◌};
 ghost use Rattle.sets.specs.Words.{TopDigit};
 

@@ -1,5 +1,7 @@
 // The manual's examples on builders, and where 01 speaks of full areas, splits and refusals. Each check tells whether the calls answer as
 // written there; the program writes a letter for each, y or n.
+#![tactic(auto)]
+
 use builder::{Builder, Built};
 use diff_count::Made;
 use examples::{blocks_are, cells_are, end_line, is_filter, refusal_of, tell};

@@ -275,9 +275,9 @@ module _ (b : Builder) (pending bits to to_bits : List ℕ) where
           (P.room.blocks_in, omega (arith, P.staged.few, P.room.cells), P.staged.in_range),
         )
 
-    pub finish_ready : {to' toBits' : List ℕ} {count edge : ℕ}
-        → Becomes s.top s.blocks (set_of b pending bits) to to_bits to' toBits' count edge
-        → Finishes b pending bits to to_bits (made.Ready (record { config = b.config; count = count; boundary = edge })) to' toBits'
+    pub finish_ready : {to' to_bits' : List ℕ} {count edge : ℕ}
+        → Becomes s.top s.blocks (set_of b pending bits) to to_bits to' to_bits' count edge
+        → Finishes b pending bits to to_bits (made.Ready (record { config = b.config; count = count; boundary = edge })) to' to_bits'
     unfolding finish_verdict
     finish_ready B =
         makes_ready (finish_verdict b pending bits to to_bits) b.config (set_of b pending bits) to to_bits s aimed.0

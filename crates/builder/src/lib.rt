@@ -1,4 +1,6 @@
 // The builder: a record by value beside two lent areas, for many buckets at once (diff_count.rs).
+#![tactic(auto)]
+
 ghost use Rattle.std.specs.Prelude.{◌≡◌, ◌*◌, ◌≤◌, length, take};
 ghost use Rattle.sets.specs.Sets.{Below};
 ghost use Rattle.sets.specs.Filter.{builder_set};

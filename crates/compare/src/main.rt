@@ -1,5 +1,7 @@
 // The comparing program: standard input to standard output. A byte past the largest input is asked for, so that a longer input is
 // refused and not cut; a read error counts as the end.
+#![tactic(auto)]
+
 use compare_text::TextAnswer;
 use libc::{STDIN_FILENO, STDOUT_FILENO};
 

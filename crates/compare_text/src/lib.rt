@@ -1,4 +1,6 @@
 // The comparing program on slices: the bytes of an input to the bytes of the answer (01, "The comparing program").
+#![tactic(auto)]
+
 ghost use Rattle.std.specs.Prelude.{◌≡◌, ◌+◌, ◌≤◌, length};
 ghost use Rattle.sets.specs.Configurations.{config_at};
 ghost use Rattle.sets.specs.Refusals.{filter_lent, is_mask, taken, verdict};

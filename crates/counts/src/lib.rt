@@ -1,5 +1,7 @@
 // The counts of a filter, and of the symmetric difference of two filters, for which no third areas are lent (the counting of
 // diff_count.rs and config/bitchunks.rs).
+#![tactic(auto)]
+
 ghost use Rattle.std.specs.Prelude.{◌≡◌, ◌-◌, ◌≤◌, length, get_or, take};
 ghost use Rattle.counts.specs.Counting.{exact_of, limited_of, exact_difference_of, limited_difference_of};
 

@@ -1,4 +1,6 @@
 // Text taken apart: lines, words, decimals and hex (01, "The comparing program").
+#![tactic(auto)]
+
 ghost use Rattle.std.specs.Prelude.{◌≡◌, ◌*◌, ◌≤◌, length};
 ghost use Rattle.sets.specs.Sets.{same};
 ghost use Rattle.sets.specs.Text.{all, decimal as Text·decimal, is_digit};

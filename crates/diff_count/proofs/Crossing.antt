@@ -84,12 +84,12 @@ bits_below {m} {k} {S = S} z H =
 
 -- ---- two filters
 
-module _ {m k : ℕ} {to₀ toBits₀ top bits top₂ bits₂ : List ℕ} {count edge count₂ edge₂ : ℕ} {S R : Set} (room : Room m k to₀ toBits₀)
+module _ {m k : ℕ} {to₀ to_bits₀ top bits top₂ bits₂ : List ℕ} {count edge count₂ edge₂ : ℕ} {S R : Set} (room : Room m k to₀ to_bits₀)
     (H : Holds m k top bits count edge S) (G : Holds m k top₂ bits₂ count₂ edge₂ R) where
-  pub xor_fits : ((k ≤ length toBits₀) × (64 * k ≤ 2 ^ 32)) × (BitsBelow k edge bits × BitsBelow k edge₂ bits₂)
+  pub xor_fits : ((k ≤ length to_bits₀) × (64 * k ≤ 2 ^ 32)) × (BitsBelow k edge bits × BitsBelow k edge₂ bits₂)
   xor_fits = ((room.blocks_in, room.small), (bits_below room.some H, bits_below room.some G))
 
-  module _ {b₁ b₂ b₃ : List ℕ} (n : length b₁ ≡ length toBits₀) (x₁ : BitsApart k bits bits₂ toBits₀ b₁)
+  module _ {b₁ b₂ b₃ : List ℕ} (n : length b₁ ≡ length to_bits₀) (x₁ : BitsApart k bits bits₂ to_bits₀ b₁)
       (e₂ : b₂ ≡ flip_bits b₁ (take count top))
       (e₃ : b₃ ≡ flip_bits b₂ (take count₂ top₂)) where
     crossed : Agree (64 * k) (held b₃) (apart S R)
@@ -114,9 +114,9 @@ module _ {m k : ℕ} {to₀ toBits₀ top bits top₂ bits₂ : List ℕ} {count
         )
 
     pub cross_becomes : {to to_bits : List ℕ} {count' edge' : ℕ} → SplitOf m k to₀ b₃ to to_bits count' edge'
-        → Becomes m k (apart S R) to₀ toBits₀ to to_bits count' edge'
+        → Becomes m k (apart S R) to₀ to_bits₀ to to_bits count' edge'
     cross_becomes s =
-        becomes (apart S R) toBits₀ crossed
+        becomes (apart S R) to_bits₀ crossed
         (flipped_rest k b₂ (take count₂ top₂) b₃ (holds_below G) e₃
         ∙ flipped_rest k b₁ (take count top) b₂ (holds_below H) e₂
         ∙ x₁.rest)

@@ -187,8 +187,8 @@ module _ (f : Filter) (top bits : List ℕ) (g : Filter) (top2 bits2 to to_bits 
         (sym a.1)
         (room_of f.config to to_bits p.1, (p.2.sound, p.3.sound))
 
-    pub difference_ready : {to' toBits' : List ℕ} {count edge : ℕ} → Becomes s.top s.blocks D to to_bits to' toBits' count edge
-        → Differs f top bits g top2 bits2 to to_bits (Ready (record { config = f.config; count = count; boundary = edge })) to' toBits'
+    pub difference_ready : {to' to_bits' : List ℕ} {count edge : ℕ} → Becomes s.top s.blocks D to to_bits to' to_bits' count edge
+        → Differs f top bits g top2 bits2 to to_bits (Ready (record { config = f.config; count = count; boundary = edge })) to' to_bits'
     unfolding difference_verdict
     difference_ready B =
         let a = two_told f.config (tally_of f) top bits g.config (tally_of g) top2 bits2 (length to) (length to_bits) s q in

@@ -1,4 +1,6 @@
 // The filter: a record by value beside two lent areas (diff_count.rs).
+#![tactic(auto)]
+
 ghost use Rattle.std.specs.Prelude.{◌≡◌, true, ◌*◌, ◌^◌, ◌≤◌, length, take};
 ghost use Rattle.sets.specs.Sets.{Below, apart};
 ghost use Rattle.sets.specs.Filter.{is_filter};

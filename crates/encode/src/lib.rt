@@ -1,4 +1,6 @@
 // Text put into a buffer, piece after piece (01, "The comparing program").
+#![tactic(auto)]
+
 ghost use Rattle.std.specs.Prelude.{◌∷◌, ◌++◌, map, ◌≡◌, ◌+◌, ◌*◌, ◌<◌, ◌≤◌, length};
 ghost use Rattle.sets.specs.Text.{fields, hex_digit, space, to_decimal, to_hex};
 ghost use Rattle.encode.specs.Pieces.{Puts};

@@ -1,4 +1,6 @@
 // What the programs that try our calls share: filters to try them on, comparers, and the letters that they write.
+#![tactic(auto)]
+
 use diff_count::Made;
 use libc::STDOUT_FILENO;
 

@@ -46,10 +46,10 @@ pub toggles_as : {f g : Filter} (top bits list : List ℕ) {a : Made} {top' bits
     → Toggles f top bits list a top' bits' → Toggles g top bits list a top' bits'
 toggles_as top bits list {a} {top'} {bits'} q h = subst (λ (x : Filter). Toggles x top bits list a top' bits') q h
 
-pub differs_as : {f g f2 g2 : Filter} (top bits top2 bits2 to to_bits : List ℕ) {a : Made} {to' toBits' : List ℕ} → f ≡ g → f2 ≡ g2
-    → Differs f top bits f2 top2 bits2 to to_bits a to' toBits' → Differs g top bits g2 top2 bits2 to to_bits a to' toBits'
-differs_as top bits top2 bits2 to to_bits {a} {to'} {toBits'} q q2 h =
-    subst₂ (λ (x y : Filter). Differs x top bits y top2 bits2 to to_bits a to' toBits') q q2 h
+pub differs_as : {f g f2 g2 : Filter} (top bits top2 bits2 to to_bits : List ℕ) {a : Made} {to' to_bits' : List ℕ} → f ≡ g → f2 ≡ g2
+    → Differs f top bits f2 top2 bits2 to to_bits a to' to_bits' → Differs g top bits g2 top2 bits2 to to_bits a to' to_bits'
+differs_as top bits top2 bits2 to to_bits {a} {to'} {to_bits'} q q2 h =
+    subst₂ (λ (x y : Filter). Differs x top bits y top2 bits2 to to_bits a to' to_bits') q q2 h
 
 pub finishes_as : {b d : Builder} (pending bits top blocks : List ℕ) {a : Made} {top' blocks' : List ℕ} → b ≡ d
     → Finishes b pending bits top blocks a top' blocks'

@@ -1,5 +1,7 @@
 // The face for C and Rust: each public call under a C name. A number stands for itself, a slice is a pointer and a length, and a
 // record is a lent array of cells. Each answers 0, or the number of the refusal, which leaves every cell as it was.
+#![tactic(auto)]
+
 ghost use Rattle.std.specs.Prelude.{◌≡◌, [], ◌∷◌};
 ghost use Rattle.sizes.specs.Sizes.{sizes_of};
 ghost use Rattle.diff_count.specs.Calls.{Empties, Toggles, Differs};

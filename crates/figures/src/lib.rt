@@ -1,4 +1,6 @@
 // The figures of two filters that the comparing program prints (01, "The comparing program").
+#![tactic(auto)]
+
 ghost use Rattle.std.specs.Prelude.{◌≡◌, ◌+◌, ◌^◌, ◌≤◌};
 ghost use Rattle.sets.specs.Configurations.{config_at};
 ghost use Rattle.sets.specs.Refusals.{taken};

@@ -13,7 +13,7 @@ use borrow.Author.Tests.{lt-ltb, le-ltb, le-leb, lt-leb, leb-true, ltb-true, eqb
 use Rattle.sets.specs.Configurations.{blocks, known, config_at}
 use Rattle.sets.specs.Filter.{is_filter}
 use Rattle.sets.specs.Masks.{largest_mask_size, size_fits, mask_fits}
-use Rattle.sets.specs.Refusals.{Verdict, taken, refused, verdict, answer, areas_lent, filter_lent, filters_lent, hold_areas, are_filter, is_mask, Cause, because, configuration, likeness, maskBits, maskSize, room, soundness}
+use Rattle.sets.specs.Refusals.{Verdict, taken, refused, verdict, answer, areas_lent, filter_lent, filters_lent, hold_areas, are_filter, is_mask, Cause, because, configuration, likeness, mask_bits, mask_size, room, soundness}
 use Rattle.sets.proofs.Configurations.{line_at, whole_blocks}
 use Rattle.sets.proofs.Tests.{and_left, and_right}
 use Rattle.sets.proofs.Verdicts.{after_taken, after_refused, passed, cond_and}
@@ -329,23 +329,23 @@ two_alone n t top bits o u top2 bits2 =
 module _ (mask size : ℕ) where
   -- what the tests tell, and what is answered
   mask_is : (a b : Bool) → size_fits size ≡ a → mask_fits mask size ≡ b
-      → answer (cond a (cond b taken (refused (because maskBits))) (refused (because maskSize))) (λ r. masks.Refused (refusal r)) masks.Fits ≡ mask_of mask size
+      → answer (cond a (cond b taken (refused (because mask_bits))) (refused (because mask_size))) (λ r. masks.Refused (refusal r)) masks.Fits ≡ mask_of mask size
   unfolding mask_of
   mask_is a b ha hb =
-      sym (ap₂ (λ (x y : Bool). answer (cond x (cond y taken (refused (because maskBits))) (refused (because maskSize))) (λ r. masks.Refused (refusal r)) masks.Fits) ha hb)
+      sym (ap₂ (λ (x y : Bool). answer (cond x (cond y taken (refused (because mask_bits))) (refused (because mask_size))) (λ r. masks.Refused (refusal r)) masks.Fits) ha hb)
 
-  pub mask_none : size < 1 → masks.Refused (refusal (because maskSize)) ≡ mask_of mask size
+  pub mask_none : size < 1 → masks.Refused (refusal (because mask_size)) ≡ mask_of mask size
   mask_none h = mask_is false (mask_fits mask size) (ap (λ (b : Bool). b && leb size largest_mask_size) (lt-leb 1 size h)) refl
 
   module _ (some : 1 ≤ size) where
     fits : (b : Bool) → leb size largest_mask_size ≡ b → size_fits size ≡ b
     fits b h = ap₂ (λ (x y : Bool). x && y) (le-leb 1 size some) h
 
-    pub mask_long : largest_mask_size < size → masks.Refused (refusal (because maskSize)) ≡ mask_of mask size
+    pub mask_long : largest_mask_size < size → masks.Refused (refusal (because mask_size)) ≡ mask_of mask size
     mask_long h = mask_is false (mask_fits mask size) (fits false (lt-leb size largest_mask_size h)) refl
 
     module _ (few : size ≤ largest_mask_size) where
-      pub mask_past : (mask / 2 ^ size ≡ 0 → ⊥) → masks.Refused (refusal (because maskBits)) ≡ mask_of mask size
+      pub mask_past : (mask / 2 ^ size ≡ 0 → ⊥) → masks.Refused (refusal (because mask_bits)) ≡ mask_of mask size
       mask_past h = mask_is true false (fits true (le-leb size largest_mask_size few)) (go (dec_lt mask (2 ^ size)))
         where
           go : Dec (mask < 2 ^ size) → mask_fits mask size ≡ false
@@ -364,8 +364,8 @@ module _ (mask size : ℕ) where
   mask_told_lem q = go (leb 1 size) (leb size largest_mask_size) (mask_fits mask size) refl refl refl q
     where
       go : (a b d : Bool) → leb 1 size ≡ a → leb size largest_mask_size ≡ b → mask_fits mask size ≡ d
-          → answer (cond (a && b) (cond d taken (refused (because maskBits))) (refused (because maskSize))) (λ r. masks.Refused (refusal r)) masks.Fits ≡ masks.Fits
-          → (cond (a && b) (cond d taken (refused (because maskBits))) (refused (because maskSize)) ≡ taken) × (1 ≤ size) × (size ≤ largest_mask_size) × (mask < 2 ^ size)
+          → answer (cond (a && b) (cond d taken (refused (because mask_bits))) (refused (because mask_size))) (λ r. masks.Refused (refusal r)) masks.Fits ≡ masks.Fits
+          → (cond (a && b) (cond d taken (refused (because mask_bits))) (refused (because mask_size)) ≡ taken) × (1 ≤ size) × (size ≤ largest_mask_size) × (mask < 2 ^ size)
       go true true true x y z e = (refl, leb-true _ _ x, leb-true _ _ y, ltb-true _ _ z)
       go true true false x y z e =
           let t : ◌≡◌ {A = ℕ} 0 1 = cc in

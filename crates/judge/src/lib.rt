@@ -1,4 +1,6 @@
 // The tests by which the calls on filters refuse, in document 01's order. None writes to what it is lent.
+#![tactic(auto)]
+
 ghost use Rattle.std.specs.Prelude.{◌≡◌, ◌*◌, ◌≤◌, length, take};
 ghost use Rattle.sets.specs.Sets.{Empty, Falls, all_below};
 ghost use Rattle.sets.specs.Words.{held};

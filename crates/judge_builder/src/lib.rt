@@ -1,4 +1,6 @@
 // The tests by which the calls on builders refuse, in document 01's order. None writes to what it is lent.
+#![tactic(auto)]
+
 ghost use Rattle.std.specs.Prelude.{◌≡◌, ◌*◌};
 ghost use Rattle.sets.specs.Filter.{is_builder};
 ghost use Rattle.bitvec.specs.Parts.{Room};

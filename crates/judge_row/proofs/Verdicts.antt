@@ -13,7 +13,7 @@ use Rattle.sets.specs.Filter.{exact_count_at}
 use Rattle.sets.specs.Row.{Fault, count_fault, entries_fit, fall_fault, high_fault, is_row, length_fits, nowhere, place, spare_fault}
 use Rattle.sets.specs.Row.{row_block_count, row_blocks, row_boundary, row_entries, shown_row}
 use Rattle.sets.specs.Refusals.{Cause, Verdict, taken, refused, because, finds, first_failing, is_row_of, test, verdict}
-use Rattle.sets.specs.Refusals.{blockCount, configuration, fall, high, range, rowLength, spare}
+use Rattle.sets.specs.Refusals.{block_count, configuration, fall, high, range, row_length, spare}
 use Rattle.sets.proofs.Configurations.{entry_width, line_at, whole_blocks}
 use Rattle.sets.proofs.Laws.{falls_low, members_gap, members_length}
 use Rattle.sets.proofs.Bytes.{length_numbers}
@@ -38,7 +38,7 @@ use Rattle.judge_row.specs.declared.RowFault.TheVariants as faults
 
 -- 2 and the four tests of 5 tell what is told of the first fault
 faults_told : (e : Bool) (f g h i : Fault)
-    → first_failing (test range e ∷ finds fall f ∷ finds blockCount g ∷ finds spare h ∷ finds high i ∷ [])
+    → first_failing (test range e ∷ finds fall f ∷ finds block_count g ∷ finds spare h ∷ finds high i ∷ [])
     ≡ fault_verdict (cond e (found (λ b. faults.Fall b) f (found (λ b. faults.BlockCount b) g
     (found (λ b. faults.Spare b) h (found (λ b. faults.High b) i faults.Nowhere)))) faults.Range)
 faults_told false f g h i = refl
@@ -50,7 +50,7 @@ faults_told true nowhere nowhere nowhere nowhere = refl
 
 -- the tests of a row, one after the other
 abbrev chain : Bool → Bool → RowFault → Verdict
-chain a b x = cond a (cond b (fault_verdict x) (refused (because rowLength))) (refused (because configuration))
+chain a b x = cond a (cond b (fault_verdict x) (refused (because row_length))) (refused (because configuration))
 
 -- the sizes that were answered
 module _ (n : ℕ) {j : SizesAnswer} {s : Sizes} (f : j ≡ sizes_of n) (q : j ≡ sized.Known s) where
@@ -65,7 +65,7 @@ module _ (n : ℕ) (bs : List ℕ) where
   unfolding row_verdict fault_of
   chained =
       let c : Config = config_at n in
-      ap (λ (v : Verdict). cond (known n) (cond (length_fits c bs) v (refused (because rowLength))) (refused (because configuration)))
+      ap (λ (v : Verdict). cond (known n) (cond (length_fits c bs) v (refused (because row_length))) (refused (because configuration)))
       (faults_told (entries_fit c bs) (fall_fault c bs) (count_fault c bs) (spare_fault c bs) (high_fault c bs))
 
   -- what the tests told, and what is answered
@@ -88,7 +88,7 @@ module _ (n : ℕ) (bs : List ℕ) where
     here = (sizes_are n f q).1
 
     module _ {b : Bool} (hb : (i : ℕ) → s ≡ sizes_at i → b ≡ length_fits (config_at i) bs) where
-      pub row_misfit : not b ≡ true → Refused (refusal (because rowLength)) ≡ row_of n bs
+      pub row_misfit : not b ≡ true → Refused (refusal (because row_length)) ≡ row_of n bs
       row_misfit tb = row_is_lem here refl true false _ (sizes_are n f q).0 (sym (hb n here) ∙ not-true b tb) refl
 
       pub row_judged : not b ≡ false → {l : Layout} → ((i : ℕ) → s ≡ sizes_at i → l ≡ layout_of (config_at i) bs)

@@ -4,7 +4,7 @@ use Rattle.sets.specs.Words.{digit}
 use Rattle.sets.specs.Configurations.{Config, config_at}
 use Rattle.sets.specs.Row.{Fault, nowhere, place, entries_fit, fall_fault, count_fault, spare_fault, high_fault, rising}
 use Rattle.sets.specs.Refusals.{Verdict, taken, refused, because, because_at, verdict, answer, is_known, is_row_of}
-use Rattle.sets.specs.Refusals.{range, fall, blockCount, spare, high}
+use Rattle.sets.specs.Refusals.{range, fall, block_count, spare, high}
 use Rattle.sizes.specs.Sizes.{sizes_at, refusal}
 use Rattle.sizes.specs.declared.Sizes.{Sizes}
 use Rattle.bitchunks.specs.Rows.{entries, layout_of}
@@ -51,7 +51,7 @@ abbrev pub fault_verdict : RowFault → Verdict
 fault_verdict faults.Nowhere = taken
 fault_verdict faults.Range = refused (because range)
 fault_verdict (faults.Fall b) = refused (because_at fall b)
-fault_verdict (faults.BlockCount b) = refused (because_at blockCount b)
+fault_verdict (faults.BlockCount b) = refused (because_at block_count b)
 fault_verdict (faults.Spare b) = refused (because_at spare b)
 fault_verdict (faults.High b) = refused (because_at high b)
 

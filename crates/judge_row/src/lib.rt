@@ -1,4 +1,6 @@
 // The tests by which the calls on rows refuse, in document 01's order. None writes to what it is lent.
+#![tactic(auto)]
+
 ghost use Rattle.std.specs.Prelude.{◌≡◌, ◌||◌, ◌⊎◌, ℕ, ◌+◌, ◌-◌, ◌*◌, ◌/◌, ◌^◌, ◌≤◌, ◌<◌, eqb, length, get_or, drop};
 ghost use Rattle.sets.specs.Sets.{all_below, members, onward};
 ghost use Rattle.sets.specs.Words.{held};

@@ -12,7 +12,7 @@ use lib.Seq.{take_all}
 use borrow.Author.Tests.{ne_eqb}
 use Rattle.sets.specs.Sets.{same}
 use Rattle.sets.specs.Configurations.{config_at}
-use Rattle.sets.specs.Refusals.{Verdict, areas_lent, is_row_of, taken, verdict, because, textForm}
+use Rattle.sets.specs.Refusals.{Verdict, areas_lent, is_row_of, taken, verdict, because, text_form}
 use Rattle.sets.specs.Row.{shown_row}
 use Rattle.sets.specs.Text.{Judged, Mask as Text-as-Mask, after, all, bare_config, config_line, cut, cut_at, decimal, from_hex, is, is_digit}
 use Rattle.sets.specs.Text.{judged_mask, mask_line, numbered, refused_at, space, text, two_decimals, unless_refused}
@@ -175,10 +175,10 @@ module _ (s to : List ℕ) {h : Hex} (H : Hexed s h to) where
   row_in e = (hexed e).0
 
   module _ (n : ℕ) (top bits : List ℕ) where
-    pub no_hex : h ≡ hex.Malformed → ReadsLine n s top bits (made.Refused (refusal (because textForm))) top bits
+    pub no_hex : h ≡ hex.Malformed → ReadsLine n s top bits (made.Refused (refusal (because text_form))) top bits
     no_hex e =
         makes_refused (line_verdict (config_at n) (from_hex s)) (config_at n) (shown_row (config_at n) (bytes_in (from_hex s))) top bits
-        (refusal (because textForm)) (because textForm)
+        (refusal (because text_form)) (because text_form)
         (ap (line_verdict (config_at n)) (subst (λ (x : Hex). Hexed s x to) e H)) refl
 
     -- with areas lent, reading judges by the row alone

@@ -2,7 +2,7 @@
 use Rattle.std.specs.Prelude.{List, [], ℕ}
 use Rattle.std.proofs.Math.Option.{Option, none, some}
 use Rattle.sets.specs.Configurations.{Config, config_at}
-use Rattle.sets.specs.Refusals.{Verdict, is_row_of, refused, verdict, because, textForm}
+use Rattle.sets.specs.Refusals.{Verdict, is_row_of, refused, verdict, because, text_form}
 use Rattle.sets.specs.Row.{shown_row}
 use Rattle.sets.specs.Text.{Judged, Mask as Text-as-Mask, from_hex, is, refused_at}
 use Rattle.diff_count.specs.Making.{Makes}
@@ -28,7 +28,7 @@ mask_told (masks.Refused r) = refused_at r.number 2
 
 -- a row's line: 11 of its text, or 4, 2 and 5 of its bytes
 abbrev pub line_verdict : Config → Option (List ℕ) → Verdict
-line_verdict c none = refused (because textForm)
+line_verdict c none = refused (because text_form)
 line_verdict c (some row) = verdict (is_row_of c row)
 
 abbrev pub bytes_in : Option (List ℕ) → List ℕ

@@ -1,4 +1,6 @@
 // The lines that the comparing program reads, each judged by itself, text first (01, "The comparing program").
+#![tactic(auto)]
+
 ghost use Rattle.std.specs.Prelude.{◌≡◌, ◌≤◌, length};
 ghost use Rattle.sets.specs.Refusals.{areas_lent, taken, verdict};
 ghost use Rattle.sets.specs.Text.{config_line, cut_at, judged_mask, largest_input, mask_line, numbered as Text·numbered, space, two_decimals};

@@ -1,4 +1,6 @@
 // Order and key of filters under a mask (cmp_masked and masked_sort_key of diff_count.rs).
+#![tactic(auto)]
+
 ghost use Rattle.std.specs.Prelude.{◌≡◌, ◌*◌, ◌≤◌};
 ghost use Rattle.sets.specs.Sets.{members};
 ghost use Rattle.sets.specs.Masks.{kept, order_of};

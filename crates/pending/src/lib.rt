@@ -1,4 +1,6 @@
 // A builder's pending buckets and its bits, in lent memory (diff_count.rs).
+#![tactic(auto)]
+
 ghost use Rattle.std.specs.Prelude.{◌≡◌, [], ◌∷◌, ◌+◌, ◌*◌, ◌^◌, ◌<◌, ◌≤◌, length, set};
 ghost use Rattle.sets.specs.Sets.{Below};
 ghost use Rattle.bitvec.specs.Parts.{Room};

@@ -1,4 +1,6 @@
 // The order of two rows under a mask, walked in their bytes, and the greater of two rows.
+#![tactic(auto)]
+
 ghost use Rattle.std.specs.Prelude.{◌≡◌, ◌*◌, ◌≤◌, length};
 ghost use Rattle.sets.specs.Masks.{order_of};
 ghost use Rattle.bitvec.specs.Cells.{Gathered, xored};

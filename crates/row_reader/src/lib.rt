@@ -1,4 +1,6 @@
 // The row reader: a lent row and a place in it, with the configuration, which gives the row's buckets from the largest down.
+#![tactic(auto)]
+
 ghost use Rattle.std.specs.Prelude.{◌≡◌, ◌*◌};
 ghost use Rattle.sets.specs.Sets.{members};
 ghost use Rattle.sets.specs.Masks.{given_at};

@@ -1,5 +1,7 @@
 // The manual's examples on rows, and 01's edges that speak of rows. Each check tells whether the calls answer as written there; the
 // program writes a letter for each, y or n.
+#![tactic(auto)]
+
 use diff_count::Made;
 use examples::{blocks_are, cells_are, end_line, filter_of, is_filter, refusal_of, tell};
 use masked::OrderAnswer;

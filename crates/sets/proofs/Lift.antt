@@ -32,22 +32,22 @@ module _ {S : Set} {n : ℕ} {tops : List ℕ} {R : Set} {edge : ℕ} (L : Lifti
       go (no l) = absurd (true≢false (sym r ∙ L.left p h ∙ below_out edge S p (omega arith)))
 
   -- the largest member that is left is the next
-  module _ (p e : ℕ) (en : e ≤ n) (ed : edge ≤ e) (small : p < e) (isIn : R p ≡ true) (above : (q : ℕ) → p < q → q < e → R q ≡ false) where
+  module _ (p e : ℕ) (en : e ≤ n) (ed : edge ≤ e) (small : p < e) (is_in : R p ≡ true) (above : (q : ℕ) → p < q → q < e → R q ≡ false) where
     pe : p < edge
-    pe = left_below p (omega arith) isIn
+    pe = left_below p (omega arith) is_in
 
     gone : (q : ℕ) → p < q → q < edge → S q ≡ false
     gone q a b = sym (below_in edge S q b) ∙ sym (L.left q (omega (arith, L.within))) ∙ above q a (omega arith)
 
     next : members S edge ≡ p ∷ members S p
-    next = members_head S p edge pe (sym (below_in edge S p pe) ∙ sym (L.left p (omega (arith, L.within))) ∙ isIn) gone
+    next = members_head S p edge pe (sym (below_in edge S p pe) ∙ sym (L.left p (omega (arith, L.within))) ∙ is_in) gone
 
     still : (q : ℕ) → q < n → flip p R q ≡ below p S q
     still q h = go (ℕ_discrete q p) (dec_lt q p) (dec_lt q e)
       where
         go : Dec (q ≡ p) → Dec (q < p) → Dec (q < e) → flip p R q ≡ below p S q
         go (yes k) d f =
-            ap (flip p R) k ∙ flip_at p R ∙ ap (differ true) isIn ∙ sym (below_out p S q (omega arith))
+            ap (flip p R) k ∙ flip_at p R ∙ ap (differ true) is_in ∙ sym (below_out p S q (omega arith))
         go (no k) (yes l) f =
             flip_other p R q k ∙ L.left q h ∙ below_in edge S q (omega (arith, pe)) ∙ sym (below_in p S q l)
         go (no k) (no l) (yes f) = flip_other p R q k ∙ above q (omega arith) f ∙ sym (below_out p S q (omega arith))

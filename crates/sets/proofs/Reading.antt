@@ -20,7 +20,7 @@ use Rattle.sets.specs.Row.{spare_byte, top_bytes}
 use Rattle.sets.specs.Row.{Fault, count_fault, entries_fit, fall_fault, high_fault, is_row, length_fits, lowest, nowhere, place, rising}
 use Rattle.sets.specs.Row.{place_of, sound, spare_fault}
 use Rattle.sets.specs.Refusals.{Cause, Reason, Verdict, because, because_at, is_row_of, refused, taken, verdict}
-use Rattle.sets.specs.Refusals.{blockCount, fall, high, range, rowLength, spare}
+use Rattle.sets.specs.Refusals.{block_count, fall, high, range, row_length, spare}
 use Rattle.sets.proofs.Laws.{below_in, below_out, onward_none, onward_none_back, falls_at}
 use Rattle.sets.proofs.Words.{held_word, word_same}
 use Rattle.sets.proofs.Lists.{below_drop, get_d_tabulate, length_tabulate}
@@ -316,8 +316,8 @@ taken_and false b k v h = (λ e. absurd (taken≢refused k e), λ e. absurd (tru
 pub verdict_row : (c : Config) (bs : List ℕ) → (verdict (is_row_of c bs) ≡ taken) ↔ (is_row c bs ≡ true)
 unfolding is_row
 verdict_row c bs =
-    taken_and (length_fits c bs) _ (because rowLength) _ (taken_and (entries_fit c bs) _ (because range) _
-    (by_fault fall (fall_fault c bs) (by_fault blockCount (count_fault c bs) (by_fault spare (spare_fault c bs)
+    taken_and (length_fits c bs) _ (because row_length) _ (taken_and (entries_fit c bs) _ (because range) _
+    (by_fault fall (fall_fault c bs) (by_fault block_count (count_fault c bs) (by_fault spare (spare_fault c bs)
     (taken_one (sound (high_fault c bs)) (because_at high (place_of (high_fault c bs))))))))
   where
     by_fault : (x : Reason) (f : Fault) {b : Bool} {v : Verdict} → (v ≡ taken) ↔ (b ≡ true)

@@ -85,8 +85,8 @@ module _ (c : Config) (S : Set) where
       length-append (bytes_of c.entry (tops_of c S)) (bit_part (edge_of c S) S)
       ∙ ap₂ ◌+◌ (length_bytes_of c.entry (tops_of c S)) (length_bit_part (edge_of c S) S)
 
-  pub row_length : length (row c S) ≡ top_count c.M (W c) S * c.entry + cond (eqb (edge_of c S) 0) 0 (1 + 8 * blocks_for (edge_of c S))
-  row_length =
+  pub row_length_lem : length (row c S) ≡ top_count c.M (W c) S * c.entry + cond (eqb (edge_of c S) 0) 0 (1 + 8 * blocks_for (edge_of c S))
+  row_length_lem =
       row_lengths
       ∙ ap (λ (x : ℕ). x * c.entry + cond (eqb (edge_of c S) 0) 0 (1 + 8 * blocks_for (edge_of c S))) (length-take c.M (members S (W c)))
 

@@ -5,7 +5,7 @@ use mathlib.Core.List.{List, [], ◌∷◌, ◌++◌}
 use Prim.Native.Nat.{ℕ, ◌+◌, ◌<◌}
 use native.Mathlib.Omega.{arith}
 use Rattle.sets.specs.Refusals.{Cause, Reason, Test, Verdict, answer, because_at, first_failing, in_order, number, one_of, order_of_judging, refused, taken, verdict}
-use Rattle.sets.specs.Refusals.{configuration, room, soundness, likeness, maskSize, maskBits, rowLength, range, fall, blockCount, spare, high, slot, buffer, textForm}
+use Rattle.sets.specs.Refusals.{configuration, room, soundness, likeness, mask_size, mask_bits, row_length, range, fall, block_count, spare, high, slot, buffer, text_form}
 
 -- where the first tests pass, the others decide
 pub after_taken : (ts us : List Test) → first_failing ts ≡ taken → first_failing (ts ++ us) ≡ first_failing us
@@ -72,22 +72,22 @@ groups_of [] x = 0
 groups_of (group ∷ groups) x = cond (one_of group x) 1 0 + groups_of groups x
 
 -- each reason stands in one group, so that no test is left out or asked twice; 11, which no call gives, stands in none
-pub listed_once : (x : Reason) → groups_of order_of_judging x ≡ cond (one_of (textForm ∷ []) x) 0 1
+pub listed_once : (x : Reason) → groups_of order_of_judging x ≡ cond (one_of (text_form ∷ []) x) 0 1
 listed_once configuration = refl
 listed_once room = refl
 listed_once soundness = refl
 listed_once likeness = refl
-listed_once maskSize = refl
-listed_once maskBits = refl
-listed_once rowLength = refl
+listed_once mask_size = refl
+listed_once mask_bits = refl
+listed_once row_length = refl
 listed_once range = refl
 listed_once fall = refl
-listed_once blockCount = refl
+listed_once block_count = refl
 listed_once spare = refl
 listed_once high = refl
 listed_once slot = refl
 listed_once buffer = refl
-listed_once textForm = refl
+listed_once text_form = refl
 
 -- 0 is no refusal's number
 numbered : (x : Reason) → 0 < number x
@@ -95,17 +95,17 @@ numbered configuration = omega arith
 numbered room = omega arith
 numbered soundness = omega arith
 numbered likeness = omega arith
-numbered maskSize = omega arith
-numbered maskBits = omega arith
-numbered rowLength = omega arith
+numbered mask_size = omega arith
+numbered mask_bits = omega arith
+numbered row_length = omega arith
 numbered range = omega arith
 numbered fall = omega arith
-numbered blockCount = omega arith
+numbered block_count = omega arith
 numbered spare = omega arith
 numbered high = omega arith
 numbered slot = omega arith
 numbered buffer = omega arith
-numbered textForm = omega arith
+numbered text_form = omega arith
 
 pub never_zero : (ts : List Test) (k : Cause) → verdict ts ≡ refused k → 0 < k.number
 never_zero ts k q = go (in_order ts) q

@@ -8,7 +8,7 @@ use Rattle.sets.specs.Row.{Fault, length_fits, entries_fit, sound, place_of, fal
 
 -- what a test looks at
 pub data Reason : Type 0 where
-  configuration room soundness likeness maskSize maskBits rowLength range fall blockCount spare high slot buffer textForm : Reason
+  configuration room soundness likeness mask_size mask_bits row_length range fall block_count spare high slot buffer text_form : Reason
 
 -- 01's table: the number, and which it is of the reasons that have this number
 abbrev pub in_table : Reason → ℕ × ℕ
@@ -16,17 +16,17 @@ in_table configuration = (1, 0)
 in_table range = (2, 0)
 in_table room = (3, 0)
 in_table buffer = (3, 1)
-in_table rowLength = (4, 0)
+in_table row_length = (4, 0)
 in_table fall = (5, 0)
-in_table blockCount = (5, 1)
+in_table block_count = (5, 1)
 in_table spare = (5, 2)
 in_table high = (5, 3)
-in_table maskSize = (6, 0)
-in_table maskBits = (7, 0)
+in_table mask_size = (6, 0)
+in_table mask_bits = (7, 0)
 in_table soundness = (8, 0)
 in_table likeness = (9, 0)
 in_table slot = (10, 0)
-in_table textForm = (11, 0)
+in_table text_form = (11, 0)
 
 abbrev pub number : Reason → ℕ
 number x = (in_table x).0
@@ -39,9 +39,9 @@ order_of_judging =
     ∷ (room ∷ [])
     ∷ (soundness ∷ [])
     ∷ (likeness ∷ [])
-    ∷ (maskSize ∷ [])
-    ∷ (maskBits ∷ [])
-    ∷ (rowLength ∷ range ∷ fall ∷ blockCount ∷ spare ∷ high ∷ [])
+    ∷ (mask_size ∷ [])
+    ∷ (mask_bits ∷ [])
+    ∷ (row_length ∷ range ∷ fall ∷ block_count ∷ spare ∷ high ∷ [])
     ∷ (slot ∷ [])
     ∷ (buffer ∷ [])
     ∷ []
@@ -98,8 +98,8 @@ verdict ts = first_failing (in_order ts)
 
 -- what a refusal gives of its cause, or what is given where the call is taken
 abbrev pub answer : {A : Type 0} → Verdict → (Cause → A) → A → A
-answer taken onRefusal a = a
-answer (refused k) onRefusal a = onRefusal k
+answer taken on_refusal a = a
+answer (refused k) on_refusal a = on_refusal k
 
 -- ---- the tests, by number
 
@@ -138,7 +138,7 @@ are_alike n o = test likeness (eqb n o)
 
 -- 6 and 7
 abbrev pub is_mask : ℕ → ℕ → List Test
-is_mask mask size = test maskSize (size_fits size) ∷ test maskBits (mask_fits mask size) ∷ []
+is_mask mask size = test mask_size (size_fits size) ∷ test mask_bits (mask_fits mask size) ∷ []
 
 -- 10: "a bucket does not fit its key slot"
 abbrev pub fits_slots : Config → ℕ → ℕ → Set → Test
@@ -147,10 +147,10 @@ fits_slots c mask size S = test slot (slots_fit c mask size S)
 -- 4, 2 and 5 of a row
 abbrev pub is_row_of : Config → List ℕ → List Test
 is_row_of c bs =
-    test rowLength (length_fits c bs)
+    test row_length (length_fits c bs)
     ∷ test range (entries_fit c bs)
     ∷ finds fall (fall_fault c bs)
-    ∷ finds blockCount (count_fault c bs)
+    ∷ finds block_count (count_fault c bs)
     ∷ finds spare (spare_fault c bs)
     ∷ finds high (high_fault c bs)
     ∷ []

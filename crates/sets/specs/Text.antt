@@ -9,7 +9,7 @@ use Rattle.sets.specs.Configurations.{Config, W, config_at}
 use Rattle.sets.specs.Filter.{exact_count_at, limited_count_at, limited_bound_at}
 use Rattle.sets.specs.Masks.{Ordering, less, equal, greater, order_of, key_of}
 use Rattle.sets.specs.Row.{shown_row}
-use Rattle.sets.specs.Refusals.{Verdict, taken, refused, verdict, number, configuration, textForm, is_mask, is_row_of}
+use Rattle.sets.specs.Refusals.{Verdict, taken, refused, verdict, number, configuration, text_form, is_mask, is_row_of}
 
 -- the bytes of a text
 abbrev pub text : String → List ℕ
@@ -27,7 +27,7 @@ and_then (refused_at n line) f = refused_at n line
 
 -- 11: "the program's text is malformed"
 abbrev pub malformed : {A : Type 0} → ℕ → Judged A
-malformed line = refused_at (number textForm) line
+malformed line = refused_at (number text_form) line
 
 abbrev pub unless_refused : {A : Type 0} → Verdict → ℕ → A → Judged A
 unless_refused taken line a = is a

@@ -1,4 +1,6 @@
 // The sizes of a configuration, and what a refusal carries.
+#![tactic(auto)]
+
 ghost use Rattle.std.specs.Prelude.{◌≡◌};
 ghost use Rattle.sizes.specs.Sizes.{sizes_of};
 

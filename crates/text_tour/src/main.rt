@@ -1,5 +1,7 @@
 // The manual's examples on the comparing call. Each check tells whether the call answers as written there; the program writes a letter
 // for each, y or n.
+#![tactic(auto)]
+
 use compare_text::TextAnswer;
 use examples::{end_line, tell};
 

@@ -1,5 +1,7 @@
 // The manual's examples and some of 01's edges. Each check tells whether the calls answer as written there; the program writes a letter
 // for each, y or n, and none where a filter to try them on was not made.
+#![tactic(auto)]
+
 use counts::{CountAnswer, LimitedAnswer};
 use diff_count::{Filter, Made};
 use examples::{blocks_are, cells_are, end_line, filter_of, is_filter, refusal_of, tell};

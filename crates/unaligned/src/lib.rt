@@ -1,5 +1,7 @@
 // Numbers of 2, 4 and 8 bytes at any place of a slice, lowest byte first (config/unaligned.rs). Compiled for x86-64 and inlined,
 // each read is one load and each write one store.
+#![tactic(auto)]
+
 ghost use Rattle.std.specs.Prelude.{◌≡◌, ◌+◌, ◌≤◌, length, take, drop};
 ghost use Rattle.std.proofs.lemmas.List.Edits.{sets};
 ghost use Rattle.sets.specs.Row.{bytes, little};

@@ -2,6 +2,8 @@
 // and what each line holds). The program asks our calls the same, and writes for each call and configuration how many lines it read
 // and how many of them our calls answer otherwise. A line with a field that is not what it should be, or with text behind the last one,
 // is answered otherwise; one whose kind or configuration is none is not understood.
+#![tactic(auto)]
+
 ghost use Rattle.std.specs.Prelude.{◌≡◌, length};
 
 use builder::Built;
