@@ -109,13 +109,22 @@ def convert(func, path):
             place=p; r=r[1:]
         c='c' if own else own_name[0]
         if not r:
-            if need is not None: return f"(goal.at.{need} c).{pnew[place]}", place
+            if need is not None:
+                if place==need_root[0]: return 'c', place
+                used.add(pnew[place])
+                return f"(goal.at.{need} c).{pnew[place]}", place
             if place==env.get('__own'): return c, place
+            warn.append('a place in a helper: '+place)
             return f"(goal.at.?? {c}).{pnew[place]}", place
         if r[0]=='pre': r[0]='requires'
         if r[0] in PLACEF:
             if r[0]=='requires': r=['requires']+fix_requires(r[1:])
             return '.'.join([c]+r), None
+        if r[0].startswith(('slice','shared')) and len(r)>1 and r[1]=='given':
+            here=need_root[0] if need is not None else env.get('__own')
+            if here:
+                for v,st in e['typed'][places[here][0]] or []:
+                    if norm(st)==norm(r[0]): return '.'.join([c,'type_inv',v]+r[2:]), None
         q=climb(place,r[0])
         if q is None and need_root[0]: q=climb(need_root[0],r[0])
         if q is None:
@@ -145,6 +154,7 @@ def convert(func, path):
             if k<len(ms): rest=['auto',ms[k]]+rest[2:]
             else: warn.append('auto of '+callee)
         return '.'.join([c,newstep]+rest), None
+    used=set()
     own_name=['c']
     need_root=[None]
     def conv(body,env,need):
@@ -164,7 +174,8 @@ def convert(func, path):
                     ok=True; break
             if not ok: break
         def one(m):
-            if m[1] not in env: return m[0]
+            if m[1] not in env:
+                return olds.get(m[1],m[1])+m[2] if m[1] in olds and not m[2] else m[0]
             comps=[x for x in m[2].split('.') if x]
             s,_=conv_path(m[1],comps,env,need,need is not None or own_name[0]=='c')
             return s
@@ -189,6 +200,11 @@ def convert(func, path):
     order={}
     for i,a in enumerate(sargs[nl:]):
         if i<len(needs): order[i]=a
+    olds={}
+    for b in bl:
+        for x in b[:3]:
+            m=re.match(r"^(?:pub )?("+ID+r") : tie\.Need-("+ID+r")",x)
+            if m and needn.get(norm(m[2])) is not None: olds[m[1]]=needs[needn[norm(m[2])]][1]
     answers={}
     comments={}
     lead={}
@@ -257,7 +273,8 @@ def convert(func, path):
         own_name[0]='c'
         def typ(k):
             q=pn.get(norm(k[1]))
-            return 'goal.'+(pnew[q] if q else k[1])
+            if q: used.add(pnew[q])
+            return pnew[q] if q else 'goal.'+k[1]
         places_in=re.findall(r"\((\w+) : tie\.("+ID+r")",t)
         for v,p in places_in:
             q=pn.get(norm(p))
@@ -268,11 +285,20 @@ def convert(func, path):
         if env:
             mine=[v for v in env if v!='__own']
             own_name[0]=mine[0] if len(mine)==1 else mine[0]
+            own_name[0]=mine[0]
+            need_root[0]=env['__own']
+            while True:
+                ok=False
+                for m in re.finditer(r"let (" + ID + r") = (" + ID + r")((?:\.before)*) in\s*",t2):
+                    if m[2] in env and m[2]!='__own':
+                        place=env[m[2]]
+                        for _ in range(m[3].count('.before')): place=places[place][1][1] or place
+                        env[m[1]]=place; t2=t2[:m.start()]+t2[m.end():]; ok=True; break
+                if not ok: break
             def one(m):
                 if m[1] not in env or m[1]=='__own': return m[0]
                 comps=[x for x in m[2].split('.') if x]
-                if not comps: return m[0]
-                own_name[0]=m[1]
+                if not comps: return own_name[0] if env[m[1]]==env['__own'] else m[0]
                 s,_=conv_path(m[1],comps,env,None,False)
                 return s
             t2=PATH.sub(one,t2)
@@ -297,7 +323,7 @@ def convert(func, path):
                 if not new.startswith('shape_of') : 
                     ans.append((i,f"pub {new} : goal.{new}\n{new} c = {a} c"))
                     warn.append('direct '+a)
-    ans.sort(key=lambda x:x[0])
+    # in the order of the old file, what was inline last
     mod=f"Rattle.{C}.proofs.{func}"
     u=[l for l in uses if not re.search(r"\.(Statement|Tie)\b",l)]
     d=os.path.dirname(path)
@@ -307,7 +333,8 @@ def convert(func, path):
         helper_inv=[h for h in helpers if any(re.search(r"(?<![\w-])"+re.escape(re.match(r"^(?:--.*\n)*(?:abbrev |pub |unfoldable )*("+ID+")",h)[1])+r"(?![\w-])",x) for x in inv) ] if helpers else []
         open(os.path.join(d,'Invariants.antt'),'w',encoding='utf8').write(hd+'\n'+'\n'.join(u+[f"use {mod}.Given as goal"])+'\n\n'+'\n\n'.join(helper_inv+inv)+'\n')
     if ans or helpers:
-        open(os.path.join(d,'Answers.antt'),'w',encoding='utf8').write(hd+'\n'+'\n'.join(u+[f"use {mod}.Goals as goal"])+'\n\n'+'\n\n'.join(helpers+[a for _,a in ans])+'\n')
+        gu=[f"use {mod}.Goals as goal"]+([f"use {mod}.Goals.{{{', '.join(sorted(used))}}}"] if used else [])
+        open(os.path.join(d,'Answers.antt'),'w',encoding='utf8').write(hd+'\n'+'\n'.join(u+gu)+'\n\n'+'\n\n'.join(helpers+[a for _,a in ans])+'\n')
     os.remove(path)
     for w in warn: print(f"{func}: {w}")
 root=os.path.join(crate,'proofs')
