@@ -17,21 +17,21 @@ ghost use Rattle.bitchunks.specs.Ones.{Gives, NextKept, rest};
 ghost use Rattle.bitchunks.specs.Counts.{FirstOf, LimitedTo};
 
 // How far a walk has come: the top entries passed, and the number of blocks still ahead.
-#[derive(Drop)]
+#[derive(Clone, Copy)]
 pub struct Cursor {
     pub passed: usize,
     pub end: usize,
 }
 
 // A block and the cursor past it, whose `end` is the block's number.
-#[derive(Drop)]
+#[derive(Clone, Copy)]
 pub enum NextChunk {
     Chunk(u64, Cursor),
     Nothing,
 }
 
 // How far two walks have come together.
-#[derive(Drop)]
+#[derive(Clone, Copy)]
 pub struct Cursors {
     pub passed: usize,
     pub passed2: usize,
@@ -39,7 +39,7 @@ pub struct Cursors {
 }
 
 // A block of the symmetric difference, that of the first set, and the cursors past it, whose `end` is the block's number.
-#[derive(Drop)]
+#[derive(Clone, Copy)]
 pub enum NextXor {
     Chunk(u64, u64, Cursors),
     Nothing,
@@ -47,14 +47,14 @@ pub enum NextXor {
 
 // The members still to be given: those in the blocks below `end`, and the places set in `block`, what is left of the block of that
 // number.
-#[derive(Drop)]
+#[derive(Clone, Copy)]
 pub struct Ones {
     pub block: u64,
     pub passed: usize,
     pub end: usize,
 }
 
-#[derive(Drop)]
+#[derive(Clone, Copy)]
 pub enum NextOne {
     At(usize, Ones),
     Nothing,
@@ -62,7 +62,7 @@ pub enum NextOne {
 
 // Where the parts of a row stand: `count` entries of `width` bytes at its beginning, and from the place `at` on n blocks, the
 // lowest of them the block of the number `first`.
-#[derive(Drop)]
+#[derive(Clone, Copy)]
 pub struct Layout {
     pub width: usize,
     pub count: usize,
@@ -72,7 +72,7 @@ pub struct Layout {
 }
 
 // The limited count of a set, and its bound.
-#[derive(Drop)]
+#[derive(Clone, Copy)]
 pub struct Limited {
     pub count: usize,
     pub bound: usize,
@@ -80,13 +80,13 @@ pub struct Limited {
 
 // Where a walk met as many members as a top list has: how many it met in whole blocks, how many blocks stand up to the last top
 // entry, and the cursors. Or how many there are, where they are fewer.
-#[derive(Drop)]
+#[derive(Clone, Copy)]
 enum Topped {
     Full(usize, usize, Cursors),
     Few(usize),
 }
 
-#[derive(Drop)]
+#[derive(Clone, Copy)]
 struct Merged {
     block: u64,
     passed: usize,

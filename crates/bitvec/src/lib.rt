@@ -13,14 +13,14 @@ ghost use Rattle.sets.specs.Row.{bytes_of, numbers, spare_byte, bit_part};
 ghost use Rattle.bitvec.specs.Cells.{zeroed, xored, Gathered, Zeros};
 ghost use Rattle.bitvec.specs.Parts.{Room, Lifted, SplitOf, Folded};
 
-#[derive(Drop)]
+#[derive(Clone, Copy)]
 pub enum NextBucket {
     At(usize),
     Nothing,
 }
 
 // A filter's record without its configuration.
-#[derive(Drop)]
+#[derive(Clone, Copy)]
 pub struct Tally {
     pub count: usize,
     pub boundary: usize,

@@ -12,7 +12,7 @@ use diff_count::{Filter, Made};
 use pending::Stage;
 use sizes::{Refusal, SizesAnswer};
 
-#[derive(Drop)]
+#[derive(Clone, Copy)]
 pub struct Builder {
     pub config: u64,
     pub split: usize,
@@ -21,7 +21,7 @@ pub struct Builder {
 }
 
 // The next record; or why there is none.
-#[derive(Drop)]
+#[derive(Clone, Copy)]
 pub enum Built {
     Next(Builder),
     Refused(Refusal),

@@ -25,14 +25,14 @@ const LARGEST_INPUT: usize = 40000;
 const LONGEST_ANSWER: usize = 322;
 
 // The figures of two rows; or a refusal's number and line.
-#[derive(Drop)]
+#[derive(Clone, Copy)]
 pub enum Judged {
     Is(Figures),
     RefusedAt(u8, u64),
 }
 
 // The length of the answer that was written; or why none was.
-#[derive(Drop)]
+#[derive(Clone, Copy)]
 pub enum TextAnswer {
     Written(usize),
     Refused(Refusal),

@@ -9,13 +9,13 @@ use bitchunks::Limited;
 use diff_count::Filter;
 use sizes::{Refusal, SizesAnswer};
 
-#[derive(Drop)]
+#[derive(Clone, Copy)]
 pub enum CountAnswer {
     Count(usize),
     Refused(Refusal),
 }
 
-#[derive(Drop)]
+#[derive(Clone, Copy)]
 pub enum LimitedAnswer {
     Count(Limited),
     Refused(Refusal),

@@ -7,20 +7,20 @@ ghost use Rattle.sets.specs.Text.{all, decimal as Text·decimal, is_digit};
 ghost use Rattle.decode.specs.Parts.{Finds, Hexed, Starts, hex_value, number_in, spelled};
 
 // The first place where a byte stands.
-#[derive(Drop)]
+#[derive(Clone, Copy)]
 pub enum Found {
     At(usize),
     Nothing,
 }
 
-#[derive(Drop)]
+#[derive(Clone, Copy)]
 pub enum Number {
     Is(u64),
     Malformed,
 }
 
 // How many bytes were decoded.
-#[derive(Drop)]
+#[derive(Clone, Copy)]
 pub enum Hex {
     Bytes(usize),
     Malformed,

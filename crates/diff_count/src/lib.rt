@@ -12,7 +12,7 @@ ghost use Rattle.diff_count.specs.Calls.{Empties, Toggles, Differs};
 use bitvec::Tally;
 use sizes::{Refusal, SizesAnswer};
 
-#[derive(Drop)]
+#[derive(Clone, Copy)]
 pub struct Filter {
     pub config: u64,
     // the entries of the top list
@@ -21,7 +21,7 @@ pub struct Filter {
 }
 
 // The record of the filter that was made; or why none was.
-#[derive(Drop)]
+#[derive(Clone, Copy)]
 pub enum Made {
     Ready(Filter),
     Refused(Refusal),

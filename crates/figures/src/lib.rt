@@ -14,21 +14,21 @@ use counts::{CountAnswer, LimitedAnswer};
 use diff_count::Filter;
 use masked::{KeyAnswer, OrderAnswer};
 
-#[derive(Drop)]
+#[derive(Clone, Copy)]
 pub struct Single {
     pub ones: usize,
     pub limited: Limited,
     pub key: u64,
 }
 
-#[derive(Drop)]
+#[derive(Clone, Copy)]
 pub struct Pair {
     pub difference: usize,
     pub limited: Limited,
     pub order: OrderAnswer,
 }
 
-#[derive(Drop)]
+#[derive(Clone, Copy)]
 pub struct Figures {
     pub config: u64,
     pub first: Single,

@@ -11,7 +11,7 @@ ghost use Rattle.judge.specs.Judging.{Tells, TopFits, roomy, areas_of, filter_of
 use bitvec::Tally;
 use sizes::{Refusal, Sizes, SizesAnswer};
 
-#[derive(Drop)]
+#[derive(Clone, Copy)]
 pub enum MaskAnswer {
     Fits,
     Refused(Refusal),

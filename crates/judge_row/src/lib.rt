@@ -13,21 +13,21 @@ use bitchunks::Layout;
 use sizes::{Refusal, Sizes, SizesAnswer};
 
 // The sizes of the configuration and where the parts of the row stand; or why the row is not taken.
-#[derive(Drop)]
+#[derive(Clone, Copy)]
 pub enum RowAnswer {
     Fits(Sizes, Layout),
     Refused(Refusal),
 }
 
 // The place of a byte, if there is one.
-#[derive(Drop)]
+#[derive(Clone, Copy)]
 enum Place {
     Nowhere,
     At(usize),
 }
 
 // The first of the tests 2 and 5 that finds a fault, and the place of its byte.
-#[derive(Drop)]
+#[derive(Clone, Copy)]
 enum RowFault {
     Nowhere,
     Range,

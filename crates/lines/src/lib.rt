@@ -14,19 +14,19 @@ use sizes::Refusal;
 // What `config` alone means.
 const BARE_CONFIG: u64 = 7;
 
-#[derive(Drop)]
+#[derive(Clone, Copy)]
 pub enum ConfigLine {
     Is(u64),
     Refused(Refusal),
 }
 
-#[derive(Drop)]
+#[derive(Clone, Copy)]
 pub struct Mask {
     pub mask: u64,
     pub size: usize,
 }
 
-#[derive(Drop)]
+#[derive(Clone, Copy)]
 pub enum MaskLine {
     Is(Mask),
     Refused(Refusal),

@@ -14,7 +14,7 @@ use diff_count::Filter;
 use judge::MaskAnswer;
 use sizes::{Refusal, SizesAnswer};
 
-#[derive(Drop)]
+#[derive(Clone, Copy)]
 pub enum OrderAnswer {
     Less,
     Equal,
@@ -22,14 +22,14 @@ pub enum OrderAnswer {
     Refused(Refusal),
 }
 
-#[derive(Drop)]
+#[derive(Clone, Copy)]
 pub enum KeyAnswer {
     Key(u64),
     Refused(Refusal),
 }
 
 // What the mask keeps of the difference in the deciding block, and the first set's block of that number; or nothing decides.
-#[derive(Drop)]
+#[derive(Clone, Copy)]
 pub enum Deciding {
     Block(u64, u64),
     Nothing,

@@ -7,7 +7,7 @@ ghost use Rattle.bitvec.specs.Parts.{Room};
 ghost use Rattle.pending.specs.Stages.{Staged, Moves, Stays, Settled, held_from};
 
 // A builder's record without its configuration.
-#[derive(Drop)]
+#[derive(Clone, Copy)]
 pub struct Stage {
     pub split: usize,
     // the buckets pending

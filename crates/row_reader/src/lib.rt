@@ -12,7 +12,7 @@ use bitvec::NextBucket;
 use judge_row::RowAnswer;
 use sizes::Refusal;
 
-#[derive(Drop)]
+#[derive(Clone, Copy)]
 pub struct RowReader<'a> {
     pub row: &'a [u8],
     pub config: u64,
@@ -20,7 +20,7 @@ pub struct RowReader<'a> {
     pub place: usize,
 }
 
-#[derive(Drop)]
+#[derive(Clone, Copy)]
 pub enum RowStep {
     Bucket(u32),
     End,
@@ -28,14 +28,14 @@ pub enum RowStep {
 }
 
 // What a step gives, and the place after it.
-#[derive(Drop)]
+#[derive(Clone, Copy)]
 pub struct Stepped {
     pub answer: RowStep,
     pub place: usize,
 }
 
 // What a step gives, and the reader after it.
-#[derive(Drop)]
+#[derive(Clone, Copy)]
 pub struct StepTaken<'a> {
     pub answer: RowStep,
     pub reader: RowReader<'a>,

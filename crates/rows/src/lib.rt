@@ -18,14 +18,14 @@ use judge_row::RowAnswer;
 use sizes::{Refusal, SizesAnswer};
 
 // The length of the row that was written; or why none was.
-#[derive(Drop)]
+#[derive(Clone, Copy)]
 pub enum WriteAnswer {
     Written(usize),
     Refused(Refusal),
 }
 
 // How many buckets the set has whose row was opened; or why it was not.
-#[derive(Drop)]
+#[derive(Clone, Copy)]
 pub enum OpenAnswer {
     Size(usize),
     Refused(Refusal),

@@ -5,7 +5,7 @@ ghost use Rattle.std.specs.Prelude.{◌≡◌};
 ghost use Rattle.sizes.specs.Sizes.{sizes_of};
 
 // A line of document 01's table.
-#[derive(Drop)]
+#[derive(Clone, Copy)]
 pub struct Sizes {
     // B: 2^B buckets per level
     pub level: usize,
@@ -27,7 +27,7 @@ pub struct Sizes {
     pub longest: usize,
 }
 
-#[derive(Drop)]
+#[derive(Clone, Copy)]
 pub struct Refusal {
     pub number: u8,
 }
@@ -63,7 +63,7 @@ pub const SLOT: Refusal = Refusal { number: 10 };
 
 pub const TEXT_FORM: Refusal = Refusal { number: 11 };
 
-#[derive(Drop)]
+#[derive(Clone, Copy)]
 pub enum SizesAnswer {
     Known(Sizes),
     Refused(Refusal),

@@ -1,0 +1,18 @@
+-- `bitchunks::count_ones_from_msb_and_lsb` meets its contract: the blocks from the window's first one hold what the limited count
+-- adds.
+use mathlib.Core.Path.{ap, ◌∙◌}
+use Prim.Native.Nat.{ℕ, ◌-◌}
+use native.Mathlib.Omega.{arith}
+use Rattle.bitchunks.proofs.Counts.{members_few, filter_limited}
+use borrow.Author.Rules.{rules}
+use Rattle.bitchunks.proofs.count_ones_from_msb_and_lsb.Goals as goal
+
+pub overflow_add-total : goal.overflow_add-total
+overflow_add-total c = omega (arith, members_few _ _ _ c.count_ones.ensures)
+
+pub returns : goal.returns
+returns c k edge top S z e H el =
+    filter_limited z H _ e _ _ _ _ _ _ el
+    (c.lsb_index_lower_bound-low.ensures
+    ∙ ap (λ (x : ℕ). x - c.args.window) c.num_blocks.ensures)
+    c.least-from.ensures c.count_ones.ensures c.bound_of.ensures

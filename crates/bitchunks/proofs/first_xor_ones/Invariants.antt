@@ -1,0 +1,16 @@
+-- `bitchunks::first_xor_ones` meets its contract: the members in the blocks passed are counted, and are fewer than m.
+use borrow.Author.Rules.{rules}
+use Prim.Native.Nat.{◌<◌}
+use native.Mathlib.Omega.{arith}
+use lib.ListN.{take}
+use Rattle.bitchunks.specs.Walk.{filter_set}
+use Rattle.bitchunks.proofs.Totals.{Total, total_start, total_few, total_none, total_next, total_turn, first_few, first_full}
+use Rattle.bitchunks.proofs.first_xor_ones.Given as goal
+
+abbrev pub invariant-loop-block : goal.invariant-loop-block
+invariant-loop-block l =
+    Total (filter_set l.top l.count l.blocks l.n) (filter_set l.top2 l.count2 l.blocks2 l.n2) 0 (take l.count l.top) (take l.count2 l.top2) l.initial.at.end l.total
+    l.at.passed l.at.passed2 l.at.end × (l.total < l.m)
+
+abbrev pub decreases-loop-block : goal.decreases-loop-block
+decreases-loop-block l = l.at.end

@@ -1,0 +1,19 @@
+-- `bitchunks::row_reach` meets its contract: the blocks and the next entry bound what is left.
+use borrow.Author.Rules.{rules}
+use Rattle.sets.proofs.Bytes.{length_numbers}
+use Rattle.bitchunks.proofs.Walk.{reach_end, reach_entry}
+use Rattle.bitchunks.proofs.Rows.{entry_at, entry_room}
+use Rattle.bitchunks.proofs.row_reach.Goals as goal
+
+pub row_entry-requires : goal.row_entry-requires
+row_entry-requires c = (c.requires.0.width, entry_room _ c.if-passed-layout.true c.requires.0.entries_in)
+
+pub returns-then-passed-layout : goal.returns-then-passed-layout
+returns-then-passed-layout c =
+    let l = c.if-passed-layout.true in
+    reach_entry c.requires.1 c.bits_end-bits.ensures _ (length_numbers 8 _ _) _ _ _
+    (length_numbers _ _ _) l
+    (entry_at _ l _ _ c.row_entry.ensures) c.into_index.ensures c.most.ensures
+
+pub returns : goal.returns
+returns c = reach_end c.requires.1 c.bits_end-bits.ensures _ (length_numbers 8 _ _) (length_numbers _ _ _) c.if-passed-layout.false

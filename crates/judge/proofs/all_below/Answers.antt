@@ -1,0 +1,8 @@
+-- `judge::all_below` meets its contract: a cell has 32 bits.
+use mathlib.Core.Path.{sym}
+use native.Mathlib.Omega.{arith}
+use Rattle.sets.proofs.Tests.{below_all}
+use Rattle.judge.proofs.all_below.Goals as goal
+
+pub returns-then-limit-ge4294967296 : goal.returns-then-limit-ge4294967296
+returns-then-limit-ge4294967296 c = sym (below_all _ c.args.list.now (λ i _. omega (arith, c.type_inv.list i)))

@@ -1,0 +1,14 @@
+-- `judge::top_fits` meets its contract.
+use mathlib.Core.Path.{refl}
+use borrow.Author.Tests.{not-true, not-false}
+use Rattle.judge.proofs.Soundness.{tells_not, tells_so, top_tells}
+use Rattle.judge.proofs.top_fits.Goals as goal
+
+pub returns-then-not-falls : goal.returns-then-not-falls
+returns-then-not-falls c = λ F. tells_not c.falls.result (not-true _ c.if-not-falls.true-raw) c.falls.ensures F.falling
+
+pub returns : goal.returns
+returns c =
+    top_tells _ _ _ c.if-m-count.false
+    (tells_so c.falls.result (not-false _ c.if-not-falls.false-raw) c.falls.ensures)
+    c.or_cells.ensures _ refl

@@ -1,0 +1,27 @@
+-- `pending::compact` meets its contract: what is taken out of the blocks again is what stands at or above the split.
+use mathlib.Core.Logic.{⊎_elim}
+use native.Mathlib.Omega.{arith}
+use borrow.Author.Rules.{rules}
+use Rattle.pending.proofs.Compacting.{Taken, take_none, take_some, fold_fits, compacted}
+use Rattle.pending.proofs.compact.Goals as goal
+use Rattle.pending.proofs.compact.Goals.{Joined-count-gt0, else-count-gt0, then-count-gt0}
+
+-- what stands at or above the split is taken out
+is_taken : (c : Joined-count-gt0) →
+    let r = c.settle-next.result in
+    let a = c.args in
+    Taken a.k r.split r.count a.pending.now c.toggle_all.new.blocks c.if-count-gt0.pending c.if-count-gt0.bits
+is_taken c =
+    elim c.if-count-gt0.branch [
+      then-count-gt0 w ↦ rw (w.pending-is, w.bits-is) (take_some c.settle-next.ensures w.if-count-gt0.true w.lift.ensures)
+      | else-count-gt0 w ↦ rw (w.pending-is, w.bits-is) (take_none c.settle-next.ensures _ w.if-count-gt0.false)
+    ]
+
+pub toggle_all-requires : goal.toggle_all-requires
+toggle_all-requires c = fold_fits c.requires.room c.requires.staged
+
+pub zero_cells-requires : goal.zero_cells-requires
+zero_cells-requires c = omega (arith, c.settle-next.ensures.few, (is_taken (goal.at.zero_cells-requires c).Joined-count-gt0).pending_length, c.requires.room.cells)
+
+pub returns : goal.returns
+returns c = compacted c.requires.room c.requires.staged c.toggle_all.ensures c.settle-next.ensures (is_taken (goal.at.returns c).Joined-count-gt0) c.zero_cells.ensures
