@@ -155,13 +155,11 @@ def convert(func, path):
             if t and t[0]=='0': t=t[1:]
             if k<len(ps): rest=['new',ps[k]]+t
             else: warn.append('last')
-        if rest and rest[0]=='new' and len(rest)>1 and rest[1].isdigit() and callee and callee in e['params']:
-            ps=e['params'][callee]; k=int(rest[1])
-            if k<len(ps): rest=['new',ps[k]]+rest[2:]
-        if rest and rest[0]=='auto' and len(rest)>1 and rest[1].isdigit() and callee:
-            ms=MUTS.get(callee.split('::')[-1],[]); k=int(rest[1])
-            if k<len(ms): rest=['auto',ms[k]]+rest[2:]
-            else: warn.append('auto of '+callee)
+        if rest and rest[0] in ('new','auto') and len(rest)>1 and rest[1].isdigit() and callee and callee in e['params']:
+            ps=e['params'][callee]; k=0; t=rest[1:]
+            while t and t[0]=='1' and k<len(ps)-1: k+=1; t=t[1:]
+            if t and t[0]=='0': t=t[1:]
+            rest=[rest[0],ps[k]]+t
         return '.'.join([c,newstep]+rest), None
     used=set()
     own_name=['c']
@@ -199,6 +197,7 @@ def convert(func, path):
             s,_=conv_path(m[1],comps,env,need,need is not None or own_name[0]=='c')
             return s
         out=PATH.sub(one,out)
+        out=re.sub(r" _?κs(?![\w'])","",out)
         # parentheses around a single argument are fine
         return out
     def as_record(body,new):
@@ -207,7 +206,11 @@ def convert(func, path):
         if not cands: return body
         names_=ALLCL[max(cands,key=len)]
         m=re.match(r"^((?:\s*let .*? in\s)*\s*)\((.*)\)\s*$",body,re.S)
-        if not m: return body
+        if not m:
+            m=re.match(r"^((?:\s*let .*? in\s)*\s*)(.*)$",body,re.S)
+            if m[2].startswith(('search','omega','grind','record')): return body
+            fs=['asked'+'.1'*k+('.0' if k<len(names_)-1 else '') for k in range(len(names_))]
+            return m[1]+'let asked = '+m[2].strip()+' in record { '+'; '.join(f"{n} = {x}" for n,x in zip(names_,fs))+' }' 
         def tup(t):
             out=[];d=0;cur=''
             for ch in t:
@@ -244,7 +247,10 @@ def convert(func, path):
     for b in bl:
         for x in b[:3]:
             m=re.match(r"^(?:pub )?("+ID+r") : tie\.Need-("+ID+r")",x)
-            if m and needn.get(norm(m[2])) is not None: olds[m[1]]=needs[needn[norm(m[2])]][1]
+            if not m: continue
+            i=needn.get(norm(m[2]))
+            if i is None and len(sargs)==nl+len(needs): i=next((k for k,a in order.items() if a==m[1]),None)
+            if i is not None: olds[m[1]]=needs[i][1]
     answers={}
     comments={}
     lead={}
