@@ -71,7 +71,7 @@ module _ (n mask size : ℕ) (first second : Bor (List ℕ)) where
   greater_greater e = by_order e
 
   pub greater_refused : {r : Refusal} → cmp_rows_of n mask size first.now second.now ≡ orders.Refused r
-      → greater_of n mask size first second ≡ (first.ptr, [])
+      → greater_of n mask size first second ≡ (first.ref_ptr, [])
   greater_refused e = by_order e
 
 -- ---- the rows of sets
