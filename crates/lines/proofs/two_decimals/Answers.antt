@@ -7,10 +7,10 @@ use lib.Seq.{length-take-le}
 use borrow.Author.Rules.{rules}
 use Rattle.lines.proofs.Paths.{before_end, no_mask, no_size, no_space, two_told}
 use Rattle.lines.proofs.two_decimals.Goals as goal
-use Rattle.lines.proofs.two_decimals.Goals.{In-At-1, In-At-2}
+use Rattle.lines.proofs.two_decimals.Goals.{In-At-1, In-At}
 
 -- the space stands in the text
-end-in : (c : In-At-2) → c.in-At.end < length c.args.text.now
+end-in : (c : In-At) → c.in-At.end < length c.args.text.now
 end-in c =
     before_end c.args.text.now c.find.ensures c.in-At.is
 
@@ -18,16 +18,16 @@ pub returns-in_default : goal.returns-in_default
 returns-in_default c = no_space _ c.find.ensures c.in_default.is
 
 pub slice_bounds-decimal-end : goal.slice_bounds-decimal-end
-slice_bounds-decimal-end c = sym (length-take-le _ _ (omega (arith, end-in (goal.at.slice_bounds-decimal-end c).In-At-1)))
+slice_bounds-decimal-end c = sym (length-take-le _ _ (omega (arith, end-in (goal.at.slice_bounds-decimal-end c).In-At)))
 
 pub returns-in_default-decimal : goal.returns-in_default-decimal
 returns-in_default-decimal c = no_mask _ c.find.ensures c.in-At.is c.decimal.ensures c.in_default-decimal.is
 
 pub overflow_add-next : goal.overflow_add-next
-overflow_add-next c = omega (arith, end-in (goal.at.overflow_add-next c).In-At-1)
+overflow_add-next c = omega (arith, end-in (goal.at.overflow_add-next c).In-At)
 
 pub slice_bounds-decimal-count : goal.slice_bounds-decimal-count
-slice_bounds-decimal-count c = omega (arith, end-in (goal.at.slice_bounds-decimal-count c).In-At-1)
+slice_bounds-decimal-count c = omega (arith, end-in (goal.at.slice_bounds-decimal-count c).In-At)
 
 pub slice_bounds-decimal-start : goal.slice_bounds-decimal-start
 slice_bounds-decimal-start c = slice_bounds-decimal-count c
