@@ -25,7 +25,7 @@ MakesBuilder = Wraps Built built_told
 -- the row that is named, or the first's empty beginning
 abbrev pub row_named : Told → Bor (List ℕ) → Bor (List ℕ) → Seen
 row_named (gives values) first second = cond (eqb (get_or values 0 0) 0) (seen first) (seen second)
-row_named (refuses n) first second = (first.ptr, [])
+row_named (refuses n) first second = (first.ref_ptr, [])
 
 -- a reader's cells are its configuration and its place; the row is lent beside them. 01: at the end, and on a refusal, "the place
 -- stays"
