@@ -2,9 +2,8 @@
 -- from C is the
 -- row reader. Assumes nothing.
 use mathlib.Core.Path.{◌≡◌, refl, sym, ap, ◌∙◌}
-use mathlib.Core.Bool.{Bool, true, false, cond}
 use mathlib.Core.List.{List, [], ◌∷◌}
-use Prim.Native.Nat.{ℕ, ◌<◌}
+use Prim.Native.Nat.{ℕ}
 use denote.Ref.{Bor}
 use native.Mathlib.Omega.{arith}
 use Rattle.sets.specs.Sets.{Set}

@@ -4,7 +4,7 @@ use mathlib.Core.Bool.{Bool, true, false, cond, ◌&&◌}
 use mathlib.Core.List.{List, [], ◌∷◌, ◌++◌}
 use Prim.Native.Nat.{ℕ, ◌+◌, ◌<◌}
 use native.Mathlib.Omega.{arith}
-use Rattle.sets.specs.Refusals.{Cause, Reason, Test, Verdict, answer, because_at, first_failing, in_order, number, one_of, order_of_judging, refused, taken, verdict}
+use Rattle.sets.specs.Refusals.{Cause, Reason, Test, Verdict, because_at, first_failing, in_order, number, one_of, order_of_judging, refused, taken, verdict}
 use Rattle.sets.specs.Refusals.{configuration, room, soundness, likeness, mask_size, mask_bits, row_length, range, fall, block_count, spare, high, slot, buffer, text_form}
 
 -- where the first tests pass, the others decide

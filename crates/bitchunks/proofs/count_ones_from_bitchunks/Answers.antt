@@ -4,7 +4,6 @@ use mathlib.Core.Path.{subst}
 use native.Mathlib.Omega.{arith}
 use Rattle.bitchunks.specs.Counts.{FirstOf}
 use Rattle.bitchunks.proofs.Totals.{all_few, full_limited, few_limited}
-use borrow.Author.Rules.{rules}
 use Rattle.bitchunks.proofs.count_ones_from_bitchunks.Goals as goal
 
 pub first_xor_ones-requires : goal.first_xor_ones-requires

@@ -4,7 +4,6 @@ use mathlib.Core.Path.{ap, ◌∙◌}
 use Prim.Native.Nat.{ℕ, ◌-◌}
 use native.Mathlib.Omega.{arith}
 use Rattle.bitchunks.proofs.Counts.{members_few, filter_limited}
-use borrow.Author.Rules.{rules}
 use Rattle.bitchunks.proofs.count_ones_from_msb_and_lsb.Goals as goal
 
 pub overflow_add-total : goal.overflow_add-total

@@ -1,9 +1,6 @@
 -- `bitchunks::count_xor_ones` meets its contract: of the members from the floor up those in the blocks passed are counted.
-use borrow.Author.Rules.{rules}
 use native.Mathlib.Omega.{arith}
-use lib.ListN.{take}
-use Rattle.bitchunks.specs.Walk.{filter_set}
-use Rattle.bitchunks.proofs.Totals.{Total, total_start, total_few, total_none, total_next, total_turn, total_end}
+use Rattle.bitchunks.proofs.Totals.{total_start, total_few, total_none, total_next, total_turn, total_end}
 use Rattle.bitchunks.proofs.count_xor_ones.Goals as goal
 
 pub loop-block-init : goal.loop-block-init

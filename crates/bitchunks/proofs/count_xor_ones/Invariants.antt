@@ -1,9 +1,7 @@
 -- `bitchunks::count_xor_ones` meets its contract: of the members from the floor up those in the blocks passed are counted.
-use borrow.Author.Rules.{rules}
-use native.Mathlib.Omega.{arith}
 use lib.ListN.{take}
 use Rattle.bitchunks.specs.Walk.{filter_set}
-use Rattle.bitchunks.proofs.Totals.{Total, total_start, total_few, total_none, total_next, total_turn, total_end}
+use Rattle.bitchunks.proofs.Totals.{Total}
 use Rattle.bitchunks.proofs.count_xor_ones.Given as goal
 
 abbrev pub invariant-loop-block : goal.invariant-loop-block

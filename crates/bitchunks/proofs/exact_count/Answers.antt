@@ -1,7 +1,6 @@
 -- `bitchunks::exact_count` meets its contract: the blocks hold the members that the top list has not.
 use native.Mathlib.Omega.{arith}
 use Rattle.bitchunks.proofs.Counts.{members_few, exact_is_lem}
-use borrow.Author.Rules.{rules}
 use Rattle.bitchunks.proofs.exact_count.Goals as goal
 
 pub overflow_add-result : goal.overflow_add-result

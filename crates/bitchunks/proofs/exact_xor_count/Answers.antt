@@ -1,6 +1,5 @@
 -- `bitchunks::exact_xor_count` meets its contract: the count from the lowest block on is that of all members.
 use mathlib.Core.Path.{◌∙◌}
-use borrow.Author.Rules.{rules}
 use Rattle.sets.proofs.Counts.{onward_all}
 use Rattle.bitchunks.proofs.exact_xor_count.Goals as goal
 

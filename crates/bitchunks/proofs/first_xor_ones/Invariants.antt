@@ -1,10 +1,8 @@
 -- `bitchunks::first_xor_ones` meets its contract: the members in the blocks passed are counted, and are fewer than m.
-use borrow.Author.Rules.{rules}
 use Prim.Native.Nat.{◌<◌}
-use native.Mathlib.Omega.{arith}
 use lib.ListN.{take}
 use Rattle.bitchunks.specs.Walk.{filter_set}
-use Rattle.bitchunks.proofs.Totals.{Total, total_start, total_few, total_none, total_next, total_turn, first_few, first_full}
+use Rattle.bitchunks.proofs.Totals.{Total}
 use Rattle.bitchunks.proofs.first_xor_ones.Given as goal
 
 abbrev pub invariant-loop-block : goal.invariant-loop-block

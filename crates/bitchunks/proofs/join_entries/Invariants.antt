@@ -1,13 +1,8 @@
 -- `bitchunks::join_entries` meets its contract: the entries left have what the block still lacks.
-use mathlib.Core.Path.{sym, subst, ◌∙◌}
 use Prim.Native.Nat.{◌-◌}
-use borrow.Author.Rules.{rules}
 use Rattle.sets.specs.Sets.{Set}
 use Rattle.sets.specs.Row.{numbers}
-use Rattle.sets.proofs.Bytes.{length_numbers}
 use Rattle.bitchunks.specs.Walk.{Merging}
-use Rattle.bitchunks.proofs.Walk.{merge_turn, merge_stop, merge_end}
-use Rattle.bitchunks.proofs.Rows.{entry_at, entry_room}
 use Rattle.bitchunks.proofs.join_entries.Given as goal
 
 abbrev pub invariant-loop-at : goal.invariant-loop-at

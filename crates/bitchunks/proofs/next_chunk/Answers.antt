@@ -1,6 +1,5 @@
 -- `bitchunks::next_chunk` meets its contract: the step's laws at the entries and blocks of a filter.
 use lib.ListN.{take}
-use borrow.Author.Rules.{rules}
 use Rattle.bitchunks.proofs.Walk.{cell_count, step_none, step_ahead, step_under, step_gap}
 use Rattle.bitchunks.proofs.next_chunk.Goals as goal
 

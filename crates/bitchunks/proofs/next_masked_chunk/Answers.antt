@@ -1,9 +1,6 @@
 -- `bitchunks::next_masked_chunk` meets its contract: in the blocks passed the mask keeps no member.
 use native.Mathlib.Omega.{arith}
-use lib.ListN.{take}
-use borrow.Author.Rules.{rules}
-use Rattle.bitchunks.specs.Walk.{filter_set}
-use Rattle.bitchunks.proofs.Giving.{Skipping, skip_start, skip_under, skip_turn, skip_end, skip_none}
+use Rattle.bitchunks.proofs.Giving.{skip_start, skip_under, skip_turn, skip_end, skip_none}
 use Rattle.bitchunks.proofs.next_masked_chunk.Goals as goal
 
 pub loop-block-init : goal.loop-block-init

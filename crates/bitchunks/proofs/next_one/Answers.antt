@@ -1,6 +1,5 @@
 -- `bitchunks::next_one` meets its contract: the next block has the members still to be given.
 use mathlib.Core.Path.{subst}
-use borrow.Author.Rules.{rules}
 use Rattle.bitchunks.specs.Ones.{NextKept}
 use Rattle.bitchunks.proofs.Giving.{seek_start, seek_turn, seek_end, seek_none}
 use Rattle.bitchunks.proofs.next_one.Goals as goal

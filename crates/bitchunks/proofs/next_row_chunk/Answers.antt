@@ -1,5 +1,4 @@
 -- `bitchunks::next_row_chunk` meets its contract: the step's laws at the entries and blocks of a row.
-use borrow.Author.Rules.{rules}
 use Rattle.bitchunks.proofs.Walk.{step_none, step_ahead, step_under, step_gap}
 use Rattle.bitchunks.proofs.next_row_chunk.Goals as goal
 

@@ -1,10 +1,6 @@
 -- `bitchunks::next_row_one` meets its contract: while the blocks are 0, the same members are still to be given.
-use mathlib.Core.Path.{subst}
-use native.Mathlib.Omega.{arith}
-use borrow.Author.Rules.{rules}
-use Rattle.bitchunks.specs.Walk.{Next}
 use Rattle.bitchunks.specs.Rows.{entries, row_set}
-use Rattle.bitchunks.proofs.Giving.{Seeking, seek_start, seek_turn, seek_end, seek_none}
+use Rattle.bitchunks.proofs.Giving.{Seeking}
 use Rattle.bitchunks.proofs.next_row_one.Given as goal
 
 abbrev pub invariant-loop-block : goal.invariant-loop-block

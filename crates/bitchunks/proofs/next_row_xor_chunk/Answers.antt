@@ -1,5 +1,4 @@
 -- `bitchunks::next_row_xor_chunk` meets its contract: the laws of two walks' step at two rows.
-use borrow.Author.Rules.{rules}
 use Rattle.bitchunks.proofs.Walk.{cross_none, cross_ahead, cross_other, cross_chunk}
 use Rattle.bitchunks.proofs.next_row_xor_chunk.Goals as goal
 

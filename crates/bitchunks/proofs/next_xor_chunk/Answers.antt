@@ -1,6 +1,5 @@
 -- `bitchunks::next_xor_chunk` meets its contract: the laws of two walks' step at two filters.
 use lib.ListN.{take}
-use borrow.Author.Rules.{rules}
 use Rattle.bitchunks.proofs.Walk.{cell_count, cross_none, cross_ahead, cross_other, cross_chunk}
 use Rattle.bitchunks.proofs.next_xor_chunk.Goals as goal
 

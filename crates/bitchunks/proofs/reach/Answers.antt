@@ -1,5 +1,4 @@
 -- `bitchunks::reach` meets its contract: the blocks and the next entry bound what is left.
-use borrow.Author.Rules.{rules}
 use Rattle.bitchunks.proofs.Walk.{cell_count, cell_entry, reach_end, reach_entry}
 use Rattle.bitchunks.proofs.reach.Goals as goal
 

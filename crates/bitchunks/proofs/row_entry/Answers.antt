@@ -1,7 +1,6 @@
 -- `bitchunks::row_entry` meets its contract: by the width.
 use mathlib.Core.Path.{◌∙◌}
 use native.Mathlib.Omega.{arith}
-use borrow.Author.Rules.{rules}
 use Rattle.bitchunks.proofs.Rows.{width_four, entry_in, entry_is_lem}
 use Rattle.bitchunks.proofs.row_entry.Goals as goal
 

@@ -1,6 +1,5 @@
 -- `bitchunks::row_merge` meets its contract: the row's block, joined with its entries.
 use native.Mathlib.Omega.{arith}
-use borrow.Author.Rules.{rules}
 use Rattle.bitchunks.proofs.Walk.{merge_start}
 use Rattle.bitchunks.proofs.row_merge.Goals as goal
 

@@ -1,5 +1,4 @@
 -- `bitchunks::row_reach` meets its contract: the blocks and the next entry bound what is left.
-use borrow.Author.Rules.{rules}
 use Rattle.sets.proofs.Bytes.{length_numbers}
 use Rattle.bitchunks.proofs.Walk.{reach_end, reach_entry}
 use Rattle.bitchunks.proofs.Rows.{entry_at, entry_room}

@@ -10,12 +10,12 @@ is_cut : (c : Joined-bit-gt0)
     c.if-bit-gt0.blocks c.if-bit-gt0.whole
 is_cut c =
     elim c.if-bit-gt0.branch [
-      then-bit-gt0 w ↦
-        cut_one _ _ (λ i. (c.slice_known-1.given i).fits) c.into_index-whole.result c.into_bit-bit.result c.into_index-whole.ensures
-        c.into_bit-bit.ensures _ _ w.into_mask.result w.if-bit-gt0.true w.into_mask.ensures (omega arith) w.blocks-is w.whole-is
+      | then-bit-gt0 w ↦
+          cut_one _ _ (λ i. (c.slice_known-1.given i).fits) c.into_index-whole.result c.into_bit-bit.result c.into_index-whole.ensures
+          c.into_bit-bit.ensures _ _ w.into_mask.result w.if-bit-gt0.true w.into_mask.ensures (omega arith) w.blocks-is w.whole-is
       | else-bit-gt0 w ↦
-        cut_none _ _ (λ i. (c.slice_known-1.given i).fits) c.into_index-whole.result c.into_bit-bit.result c.into_index-whole.ensures
-        c.into_bit-bit.ensures _ _ w.if-bit-gt0.false w.blocks-is w.whole-is
+          cut_none _ _ (λ i. (c.slice_known-1.given i).fits) c.into_index-whole.result c.into_bit-bit.result c.into_index-whole.ensures
+          c.into_bit-bit.ensures _ _ w.if-bit-gt0.false w.blocks-is w.whole-is
     ]
 
 pub zero_blocks-requires : goal.zero_blocks-requires

@@ -5,7 +5,6 @@ use Prim.Native.Nat.{◌≤◌}
 use native.Mathlib.Omega.{arith}
 use lib.ListN.{length}
 use lib.Seq.{length-take-le}
-use borrow.Author.Rules.{rules}
 use Rattle.compare_text.proofs.Answering.{copied, too_short}
 use Rattle.compare_text.proofs.compare_text.Goals as goal
 use Rattle.compare_text.proofs.compare_text.Goals.{After-text-3-1}

@@ -1,16 +1,10 @@
 -- `compare_text::first_row` meets its contract: each return by what the line and the row tell.
 use mathlib.Core.Path.{sym}
-use mathlib.Core.List.{List}
-use Prim.Native.Nat.{ℕ, ◌≤◌}
 use native.Mathlib.Omega.{arith}
-use lib.ListN.{length, take}
-use Rattle.sets.specs.Text.{Mask, largest_input}
-use Rattle.diff_count.specs.declared.Filter.{Filter}
+use lib.ListN.{take}
 use Rattle.lines.specs.Lines.{mask_in}
-use Rattle.compare_text.specs.Answers.{Areas}
 use Rattle.compare_text.proofs.Judging.{Line, Read, first_asks, first_judged, first_missing, first_refused, line_ends, line_fits}
 use Rattle.compare_text.proofs.Judging.{line_length, no_line, row_read, row_refused}
-use borrow.Author.Rules.{rules}
 use Rattle.compare_text.proofs.first_row.Goals as goal
 use Rattle.compare_text.proofs.first_row.Goals.{In-At, In-Ready}
 

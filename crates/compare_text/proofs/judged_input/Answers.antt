@@ -1,15 +1,11 @@
 -- `compare_text::judged_input` meets its contract: each return by what the line and the configuration tell.
-use mathlib.Core.Path.{◌≡◌, sym, ap, ◌∙◌}
-use mathlib.Core.List.{List}
-use Prim.Native.Nat.{ℕ, ◌≤◌}
+use mathlib.Core.Path.{sym, ap, ◌∙◌}
 use native.Mathlib.Omega.{arith}
-use lib.ListN.{length, take}
-use Rattle.sets.specs.Text.{config_line, is, largest_input}
+use lib.ListN.{take}
 use Rattle.lines.specs.Lines.{config_told}
 use Rattle.lines.proofs.Judged.{config_areas}
 use Rattle.compare_text.proofs.Judging.{Line, input_judged, input_long, input_missing, input_refused, line_ends, line_length}
 use Rattle.compare_text.proofs.Judging.{no_line, rest_fits}
-use borrow.Author.Rules.{rules}
 use Rattle.compare_text.proofs.judged_input.Goals as goal
 use Rattle.compare_text.proofs.judged_input.Goals.{In-At}
 

@@ -1,15 +1,11 @@
 -- `compare_text::masked_rows` meets its contract: each return by what the line and the mask tell.
-use mathlib.Core.Path.{◌≡◌, sym, ap, ◌∙◌}
-use mathlib.Core.List.{List}
-use Prim.Native.Nat.{ℕ, ◌≤◌}
+use mathlib.Core.Path.{sym, ap, ◌∙◌}
 use native.Mathlib.Omega.{arith}
-use lib.ListN.{length, take}
-use Rattle.sets.specs.Text.{Mask, is, largest_input, mask_line}
+use lib.ListN.{take}
 use Rattle.lines.specs.Lines.{mask_in, mask_told}
 use Rattle.lines.proofs.Judged.{mask_fits_lem}
 use Rattle.compare_text.proofs.Judging.{Line, line_ends, line_length, masked_judged, masked_missing, masked_refused, no_line}
 use Rattle.compare_text.proofs.Judging.{rest_fits}
-use borrow.Author.Rules.{rules}
 use Rattle.compare_text.proofs.masked_rows.Goals as goal
 use Rattle.compare_text.proofs.masked_rows.Goals.{In-At}
 

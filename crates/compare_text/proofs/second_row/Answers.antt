@@ -1,18 +1,11 @@
 -- `compare_text::second_row` meets its contract: each return by what the line and the row tell.
 use mathlib.Core.Path.{sym}
-use mathlib.Core.List.{List}
-use Prim.Native.Nat.{ℕ, ◌≤◌}
 use native.Mathlib.Omega.{arith}
-use lib.ListN.{length, take}
-use Rattle.sets.specs.Sets.{Set}
-use Rattle.sets.specs.Text.{Mask, largest_input}
+use lib.ListN.{take}
 use Rattle.diff_count.specs.Calls.{shown_by}
-use Rattle.diff_count.specs.declared.Filter.{Filter}
 use Rattle.lines.specs.Lines.{mask_in}
-use Rattle.compare_text.specs.Answers.{Areas}
 use Rattle.compare_text.proofs.Judging.{Line, Read, figures_asks, line_ends, line_fits, line_length, no_line, row_read, row_refused}
 use Rattle.compare_text.proofs.Judging.{second_followed, second_judged, second_missing, second_refused}
-use borrow.Author.Rules.{rules}
 use Rattle.compare_text.proofs.second_row.Goals as goal
 use Rattle.compare_text.proofs.second_row.Goals.{In-At, In-Ready}
 

@@ -5,7 +5,6 @@ use Rattle.counts.specs.declared.CountAnswer.TheVariants as counts
 use Rattle.judge.proofs.Verdicts.{refuses}
 use Rattle.diff_count.proofs.Told.{One, one, one_not}
 use Rattle.counts.proofs.Counted.{one_exact}
-use borrow.Author.Rules.{rules}
 use Rattle.counts.proofs.exact_count.Goals as goal
 use Rattle.counts.proofs.exact_count.Goals.{In-Known}
 

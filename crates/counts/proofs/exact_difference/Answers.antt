@@ -5,7 +5,6 @@ use Rattle.counts.specs.declared.CountAnswer.TheVariants as counts
 use Rattle.judge.proofs.Verdicts.{refuses}
 use Rattle.diff_count.proofs.Told.{Two, fits_walk, two, two_not}
 use Rattle.counts.proofs.Counted.{two_exact}
-use borrow.Author.Rules.{rules}
 use Rattle.counts.proofs.exact_difference.Goals as goal
 use Rattle.counts.proofs.exact_difference.Goals.{In-Known}
 

@@ -5,7 +5,6 @@ use Rattle.counts.specs.declared.LimitedAnswer.TheVariants as limits
 use Rattle.judge.proofs.Verdicts.{refuses}
 use Rattle.diff_count.proofs.Told.{One, one, one_not}
 use Rattle.counts.proofs.Counted.{one_limited}
-use borrow.Author.Rules.{rules}
 use Rattle.counts.proofs.limited_count.Goals as goal
 use Rattle.counts.proofs.limited_count.Goals.{In-Known}
 

@@ -5,7 +5,6 @@ use Rattle.counts.specs.declared.LimitedAnswer.TheVariants as limits
 use Rattle.judge.proofs.Verdicts.{refuses}
 use Rattle.diff_count.proofs.Told.{Two, fits_walk, two, two_not}
 use Rattle.counts.proofs.Counted.{two_limited}
-use borrow.Author.Rules.{rules}
 use Rattle.counts.proofs.limited_difference.Goals as goal
 use Rattle.counts.proofs.limited_difference.Goals.{In-Known}
 

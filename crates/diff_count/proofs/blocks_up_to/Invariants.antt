@@ -1,9 +1,6 @@
 -- `diff_count::blocks_up_to` meets its contract: `most` reaches over the first i buckets listed.
-use Prim.Native.Nat.{◌+◌, ◌-◌}
-use native.Mathlib.Omega.{arith}
-use mathlib.Core.Logic.{⊎_elim}
-use borrow.Author.Rules.{rules}
-use Rattle.diff_count.proofs.Reaching.{Reaching, reach_start, reach_turn, reach_end}
+use Prim.Native.Nat.{◌-◌}
+use Rattle.diff_count.proofs.Reaching.{Reaching}
 use Rattle.diff_count.proofs.blocks_up_to.Given as goal
 
 abbrev pub invariant-loop-i : goal.invariant-loop-i

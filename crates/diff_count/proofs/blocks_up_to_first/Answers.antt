@@ -1,5 +1,4 @@
 -- `diff_count::blocks_up_to_first` meets its contract: what reaches over the first reaches over all.
-use borrow.Author.Rules.{rules}
 use Rattle.diff_count.proofs.Reaching.{up_to_none, up_to_first}
 use Rattle.diff_count.proofs.blocks_up_to_first.Goals as goal
 

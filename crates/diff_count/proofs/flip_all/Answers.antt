@@ -3,7 +3,6 @@ use mathlib.Core.Path.{refl, sym, ◌∙◌}
 use Rattle.sets.proofs.Shown.{filter_holds}
 use Rattle.sets.proofs.Tests.{all_below_lem}
 use Rattle.diff_count.proofs.Flips.{list_fits, bits_become}
-use borrow.Author.Rules.{rules}
 use Rattle.diff_count.proofs.flip_all.Goals as goal
 
 pub toggle_all-requires : goal.toggle_all-requires

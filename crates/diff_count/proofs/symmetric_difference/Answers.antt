@@ -1,7 +1,6 @@
 -- `diff_count::symmetric_difference` meets its contract: judged, then xored into the third areas.
 use mathlib.Core.Path.{sym, ◌∙◌}
 use Rattle.diff_count.proofs.Outcomes.{difference_refused, difference_asks, difference_ready}
-use borrow.Author.Rules.{rules}
 use Rattle.diff_count.proofs.symmetric_difference.Goals as goal
 
 pub xor-third-requires : goal.xor-third-requires

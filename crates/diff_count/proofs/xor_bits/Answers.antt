@@ -1,11 +1,9 @@
 -- `diff_count::xor_bits` meets its contract: xored up to the larger boundary, and zeros from there on.
 use mathlib.Core.Path.{◌≡◌, ◌∙◌, ap}
-use mathlib.Core.Logic.{⊎_elim}
 use Prim.Native.Nat.{max}
 use native.Mathlib.Omega.{arith}
 use Rattle.sets.specs.Configurations.{blocks_for}
 use Rattle.diff_count.proofs.Crossing.{bits_fit, zeros_fit, bits_apart}
-use borrow.Author.Rules.{rules}
 use Rattle.diff_count.proofs.xor_bits.Goals as goal
 use Rattle.diff_count.proofs.xor_bits.Goals.{Joined-edge-boundary2, else-edge-boundary2, then-edge-boundary2}
 

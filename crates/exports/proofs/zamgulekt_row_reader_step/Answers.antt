@@ -5,7 +5,6 @@ use Rattle.row_reader.specs.declared.Stepped.{Stepped}
 use Rattle.exports.specs.Told.{step_told}
 use Rattle.exports.specs.Calls.{reader_after}
 use Rattle.exports.proofs.Telling.{given, refusing}
-use borrow.Author.Rules.{rules}
 use Rattle.exports.proofs.zamgulekt_row_reader_step.Goals as goal
 
 pub returns-in-Bucket : goal.returns-in-Bucket

@@ -1,6 +1,5 @@
 -- `judge_row::bit_fault` meets its contract: the entries fall, and each call answers one of the other three tests.
 use mathlib.Core.Path.{◌∙◌}
-use borrow.Author.Rules.{rules}
 use Rattle.judge_row.proofs.Faults.{Placed, blocks_in_lem, edge_small, no_fault, not_counted, not_spare, placed_in, spare_in, too_high}
 use Rattle.judge_row.proofs.bit_fault.Goals as goal
 use Rattle.judge_row.proofs.bit_fault.Goals.{Start}

@@ -1,7 +1,6 @@
 -- `judge_row::fault_of` meets its contract: entries that do not fall are asked for their range, and of others the bit part decides.
 --
 use mathlib.Core.Path.{sym, ◌∙◌}
-use borrow.Author.Rules.{rules}
 use Rattle.judge_row.proofs.Faults.{Placed, not_falling, out_of_range, placed_in, placed_nowhere}
 use Rattle.judge_row.proofs.fault_of.Goals as goal
 use Rattle.judge_row.proofs.fault_of.Goals.{Start}

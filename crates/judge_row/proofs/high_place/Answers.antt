@@ -1,6 +1,4 @@
 -- `judge_row::high_place` meets its contract: by the last block's bits above the highest allowed.
-use native.Mathlib.Omega.{arith}
-use borrow.Author.Rules.{rules}
 use Rattle.judge_row.proofs.High.{no_blocks, high_none, high_at}
 use Rattle.judge_row.proofs.high_place.Goals as goal
 

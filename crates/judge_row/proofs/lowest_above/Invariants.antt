@@ -1,8 +1,6 @@
 -- `judge_row::lowest_above` meets its contract: a place that is not set is passed.
 use Prim.Native.Nat.{◌-◌}
-use native.Mathlib.Omega.{arith}
-use borrow.Author.Rules.{rules}
-use Rattle.judge_row.proofs.High.{Climbs, climb_start, climb_turn, climb_small, climb_end}
+use Rattle.judge_row.proofs.High.{Climbs}
 use Rattle.judge_row.proofs.lowest_above.Given as goal
 
 abbrev pub invariant-loop-at : goal.invariant-loop-at

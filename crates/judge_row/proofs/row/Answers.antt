@@ -1,5 +1,4 @@
 -- `judge_row::row` meets its contract: each test decides, in the order of judging.
-use borrow.Author.Rules.{rules}
 use Rattle.judge_row.proofs.Verdicts.{row_judged, row_listed, row_misfit, row_unknown}
 use Rattle.judge_row.proofs.row.Goals as goal
 use Rattle.judge_row.proofs.row.Goals.{Else-not-length_fits}

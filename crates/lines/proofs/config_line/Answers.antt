@@ -1,8 +1,7 @@
 -- `lines::config_line` meets its contract: each path by its law.
 use mathlib.Core.Path.{sym, ◌∙◌}
-use borrow.Author.Rules.{rules}
 use borrow.Author.Tests.{not-false, not-true}
-use Rattle.lines.proofs.Paths.{bare, config_long, config_told_lem, no_config}
+use Rattle.lines.proofs.Paths.{bare, config_told_lem, no_config}
 use Rattle.lines.proofs.config_line.Goals as goal
 
 pub returns-then-equals : goal.returns-then-equals

@@ -1,7 +1,6 @@
 -- `lines::mask_line` meets its contract: each path by its law.
-use borrow.Author.Rules.{rules}
 use borrow.Author.Tests.{not-false, not-true}
-use Rattle.lines.proofs.Paths.{mask_line_told, mask_long, no_word}
+use Rattle.lines.proofs.Paths.{mask_line_told, no_word}
 use Rattle.lines.proofs.mask_line.Goals as goal
 
 pub returns-then-not-starts_with : goal.returns-then-not-starts_with

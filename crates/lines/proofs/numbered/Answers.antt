@@ -1,10 +1,8 @@
 -- `lines::numbered` meets its contract: each path by its law.
 use mathlib.Core.Path.{◌≡◌, sym, ◌∙◌}
 use mathlib.Core.Bool.{true, ◌||◌}
-use mathlib.Core.Logic.{⊎_elim}
 use lib.Dec.{eqb}
 use lib.ListN.{length}
-use borrow.Author.Rules.{rules}
 use borrow.Author.Tests.{eq-eqb, ne_eqb, not-false, not-true}
 use Rattle.lines.proofs.Paths.{is_neither, is_seven, is_ten, other_byte, other_length}
 use Rattle.lines.proofs.numbered.Goals as goal
@@ -16,7 +14,7 @@ few : (c : Joined-else-digits-ne1)
 few c =
     let n = length c.args.digits.now in
     elim c.else-digits-ne1.branch [
-      else-digits-ne1-via-then-digits-ne1+else-digits-ne2 w ↦ rw (ne_eqb n 1 w.if-digits-ne1.true) (eq-eqb n 2 w.if-digits-ne2.false)
+      | else-digits-ne1-via-then-digits-ne1+else-digits-ne2 w ↦ rw (ne_eqb n 1 w.if-digits-ne1.true) (eq-eqb n 2 w.if-digits-ne2.false)
       | else-digits-ne1-via-else-digits-ne1 w ↦ rw (eq-eqb n 1 w.if-digits-ne1.false)
     ]
 

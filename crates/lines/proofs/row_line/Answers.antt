@@ -1,7 +1,6 @@
 -- `lines::row_line` meets its contract: the bytes that the line spells are read as a row.
 use mathlib.Core.Path.{sym}
 use lib.Seq.{length-take-le}
-use borrow.Author.Rules.{rules}
 use Rattle.lines.proofs.Paths.{no_hex, row_in, row_told}
 use Rattle.lines.proofs.row_line.Goals as goal
 use Rattle.lines.proofs.row_line.Goals.{In-Bytes}

@@ -4,7 +4,6 @@ use Prim.Native.Nat.{◌<◌}
 use native.Mathlib.Omega.{arith}
 use lib.ListN.{length}
 use lib.Seq.{length-take-le}
-use borrow.Author.Rules.{rules}
 use Rattle.lines.proofs.Paths.{before_end, no_mask, no_size, no_space, two_told}
 use Rattle.lines.proofs.two_decimals.Goals as goal
 use Rattle.lines.proofs.two_decimals.Goals.{In-At-1, In-At}

@@ -1,6 +1,5 @@
 -- `masked::cmp_masked` meets its contract: a judge's refusal is the call's, and where both judges pass the walks go over the sets
 -- shown.
-use borrow.Author.Rules.{rules}
 use native.Mathlib.Omega.{arith}
 use Rattle.diff_count.proofs.Told.{Two, fits_walk, two, two_not}
 use Rattle.masked.proofs.Asked.{block_laid, cmp_done, cmp_refused, cmp_unmasked, mask_in_lem}

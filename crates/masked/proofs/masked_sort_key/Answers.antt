@@ -1,6 +1,5 @@
 -- `masked::masked_sort_key` meets its contract: a judge's refusal is the call's, and where both judges pass the walk goes over
 -- the set shown.
-use borrow.Author.Rules.{rules}
 use native.Mathlib.Omega.{arith}
 use Rattle.diff_count.proofs.Told.{One, fits_walk, one, one_not}
 use Rattle.masked.proofs.Asked.{block_laid, key_done, key_refused, key_unmasked, mask_in_lem, slot_bits}

@@ -1,7 +1,5 @@
 -- `pending::compact` meets its contract: what is taken out of the blocks again is what stands at or above the split.
-use mathlib.Core.Logic.{⊎_elim}
 use native.Mathlib.Omega.{arith}
-use borrow.Author.Rules.{rules}
 use Rattle.pending.proofs.Compacting.{Taken, take_none, take_some, fold_fits, compacted}
 use Rattle.pending.proofs.compact.Goals as goal
 use Rattle.pending.proofs.compact.Goals.{Joined-count-gt0, else-count-gt0, then-count-gt0}
@@ -13,7 +11,7 @@ is_taken : (c : Joined-count-gt0) →
     Taken a.k r.split r.count a.pending.now c.toggle_all.new.blocks c.if-count-gt0.pending c.if-count-gt0.bits
 is_taken c =
     elim c.if-count-gt0.branch [
-      then-count-gt0 w ↦ rw (w.pending-is, w.bits-is) (take_some c.settle-next.ensures w.if-count-gt0.true w.lift.ensures)
+      | then-count-gt0 w ↦ rw (w.pending-is, w.bits-is) (take_some c.settle-next.ensures w.if-count-gt0.true w.lift.ensures)
       | else-count-gt0 w ↦ rw (w.pending-is, w.bits-is) (take_none c.settle-next.ensures _ w.if-count-gt0.false)
     ]
 

@@ -1,10 +1,7 @@
 -- `pending::push_all` meets its contract: the first i buckets listed are pushed.
 use Prim.Native.Nat.{◌-◌}
-use native.Mathlib.Omega.{arith}
 use lib.ListN.{length}
-use Rattle.pending.proofs.Moving.{moves_room}
-use Rattle.pending.proofs.Pushing.{Pushing, push_start, push_turn, push_end}
-use borrow.Author.Rules.{rules}
+use Rattle.pending.proofs.Pushing.{Pushing}
 use Rattle.pending.proofs.push_all.Given as goal
 
 abbrev pub invariant-loop-i : goal.invariant-loop-i

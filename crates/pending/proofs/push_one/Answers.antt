@@ -1,6 +1,5 @@
 -- `pending::push_one` meets its contract: the bit flips, or the bucket is stored, in a compacted area if need be.
 use Rattle.pending.proofs.Pushing.{push_low, push_high, push_full}
-use borrow.Author.Rules.{rules}
 use Rattle.pending.proofs.push_one.Goals as goal
 
 pub returns-then-bucket-stage : goal.returns-then-bucket-stage

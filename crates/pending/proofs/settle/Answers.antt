@@ -1,10 +1,8 @@
 -- `pending::settle` meets its contract: while too many are at or above the split, it can rise.
-use mathlib.Core.Logic.{⊎_elim}
 use mathlib.Core.Path.{◌≡◌}
-use Prim.Native.Nat.{◌+◌, ◌-◌, ◌*◌, min}
+use Prim.Native.Nat.{◌+◌, ◌*◌, min}
 use native.Mathlib.Omega.{arith}
-use borrow.Author.Rules.{rules}
-use Rattle.pending.proofs.Settling.{Settling, settle_start, settle_room, settle_turn, settle_end}
+use Rattle.pending.proofs.Settling.{settle_start, settle_room, settle_turn, settle_end}
 use Rattle.pending.proofs.settle.Goals as goal
 use Rattle.pending.proofs.settle.Goals.{Joined-k-up, else-k-up, then-k-up}
 

@@ -1,10 +1,6 @@
 -- `pending::settle` meets its contract: while too many are at or above the split, it can rise.
-use mathlib.Core.Logic.{⊎_elim}
-use mathlib.Core.Path.{◌≡◌}
-use Prim.Native.Nat.{◌+◌, ◌-◌, ◌*◌, min}
-use native.Mathlib.Omega.{arith}
-use borrow.Author.Rules.{rules}
-use Rattle.pending.proofs.Settling.{Settling, settle_start, settle_room, settle_turn, settle_end}
+use Prim.Native.Nat.{◌-◌, ◌*◌}
+use Rattle.pending.proofs.Settling.{Settling}
 use Rattle.pending.proofs.settle.Given as goal
 
 abbrev pub invariant-loop-count : goal.invariant-loop-count

@@ -1,6 +1,5 @@
 -- `row_order::cmp_rows` meets its contract: a judge's refusal is the call's, and the mask laid over a block keeps what the mask
 -- keeps.
-use borrow.Author.Rules.{rules}
 use Rattle.masked.proofs.Asked.{block_laid, mask_in_lem}
 use Rattle.row_order.proofs.Asked.{rows_done, rows_unknown, rows_unmasked}
 use Rattle.row_order.proofs.cmp_rows.Goals as goal

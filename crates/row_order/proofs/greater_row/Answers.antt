@@ -1,6 +1,5 @@
 -- `row_order::greater_row` meets its contract: the order names the row that is handed back.
 use mathlib.Core.Path.{sym, ◌∙◌}
-use borrow.Author.Rules.{rules}
 use Rattle.row_order.proofs.Theorems.{greater_equal, greater_greater, greater_less, greater_refused}
 use Rattle.row_order.proofs.greater_row.Goals as goal
 

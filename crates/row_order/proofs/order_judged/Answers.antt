@@ -1,6 +1,5 @@
 -- `row_order::order_judged` meets its contract: a judge's refusal is the order's, rows of the same bytes show one set, and where
 -- two others fit the walks go over the sets shown.
-use borrow.Author.Rules.{rules}
 use Rattle.judge.proofs.Soundness.{tells_so}
 use Rattle.row_order.proofs.Asked.{both_walk, judged_done, judged_first, judged_same, judged_second_lem}
 use Rattle.row_order.proofs.order_judged.Goals as goal

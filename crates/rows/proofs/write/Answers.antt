@@ -5,7 +5,6 @@ use Rattle.sets.specs.Words.{held}
 use Rattle.sets.proofs.Rows.{length_bit_part}
 use Rattle.diff_count.proofs.Told.{one_not}
 use Rattle.rows.proofs.Writing.{Writable, writable, write_done, write_refused, write_short}
-use borrow.Author.Rules.{rules}
 use Rattle.rows.proofs.write.Goals as goal
 use Rattle.rows.proofs.write.Goals.{In-Known}
 

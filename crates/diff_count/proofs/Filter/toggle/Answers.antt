@@ -2,7 +2,6 @@
 use mathlib.Core.Path.{sym, ◌∙◌}
 use borrow.Author.Tests.{not-true, not-false}
 use Rattle.diff_count.proofs.Outcomes.{toggle_refused, toggle_past, toggle_asks, toggle_ready}
-use borrow.Author.Rules.{rules}
 use Rattle.diff_count.proofs.Filter.toggle.Goals as goal
 
 pub returns-then-not-all_below : goal.returns-then-not-all_below
