@@ -32,6 +32,7 @@ def write(path, text):
 def declared():
     """Each own name with the kinds of its declarations."""
     names = collections.defaultdict(set)
+    files = collections.defaultdict(set)
     for path in sorted(glob.glob("crates/*/specs/*.antt") + glob.glob("crates/*/proofs/*.antt")):
         inner = "lemma" if "/proofs/" in path else "definition"
         block = None
@@ -53,8 +54,9 @@ def declared():
                 block = None
             m = re.match(rf"^\s*{MARKS}({NAME})(?: \{{[^}}]*\}})? :(?: |$)", line)
             if m:
+                files[m[1]].add(path)
                 names[m[1]].add("type" if re.search(r": .*→ Type \d$|: Type \d$", line) and m[1][0].isupper() else inner)
-    return names
+    return names, files
 
 
 def snake(name):
@@ -65,7 +67,7 @@ def snake(name):
     return "_".join(parts)
 
 
-def new_names(names):
+def new_names(names, files):
     groups = collections.defaultdict(set)
     for name, kinds in names.items():
         plain = "type" in kinds or (name[0].isupper() and "-" not in name)
@@ -74,7 +76,7 @@ def new_names(names):
     for to, group in groups.items():
         for name in group:
             lemma = names[name] <= {"lemma"}
-            other = any(not names[g] <= {"lemma"} or ("-" in name and "-" not in g) for g in group if g != name)
+            other = any(not names[g] <= {"lemma"} or ("-" in name and "-" not in g and files[name] & files[g]) for g in group if g != name)
             if len(group) > 1 and lemma and other:
                 new[name] = to + "_lem"
             elif to != name:
@@ -102,8 +104,8 @@ def turn(text, new, own_proof):
 
 
 def main():
-    names = declared()
-    new = new_names(names)
+    names, files = declared()
+    new = new_names(names, files)
     sources = glob.glob("crates/*/src/*.rt")
     plain = glob.glob("crates/*/specs/*.antt") + glob.glob("crates/*/proofs/*.antt")
     walks = [p for p in glob.glob("crates/*/proofs/**/*.antt", recursive=True) if p not in plain]
