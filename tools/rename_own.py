@@ -111,7 +111,9 @@ def main():
     walks = [p for p in glob.glob("crates/*/proofs/**/*.antt", recursive=True) if p not in plain]
     for path in sorted(plain + walks + sources):
         text = read(path)
-        turned = turn(text, new, path in walks)
+        # a name of the source keeps its spelling
+        mine = {a: b for a, b in new.items() if a != a.lower() or "-" in a} if path in sources else new
+        turned = turn(text, mine, path in walks)
         if turned != text:
             write(path, turned)
     # edits and pages still have the names of before port.py
