@@ -11,10 +11,11 @@ use counts::{CountAnswer, LimitedAnswer};
 use decode::{Found, Hex, Number};
 use diff_count::{Filter, Made};
 use examples::{blocks_are, cells_are};
-use libc::{STDIN_FILENO, STDOUT_FILENO};
 use masked::{KeyAnswer, OrderAnswer};
 use row_reader::RowStep;
 use rows::{OpenAnswer, WriteAnswer};
+use std::io;
+use std::io::Write;
 
 // more lines than the list has
 const MOST_LINES: usize = 10000;
@@ -251,7 +252,7 @@ fn counts_are(line: &[u8], at: usize, exact: CountAnswer, limited: LimitedAnswer
         && ends(line, bound.next)
 }
 
-fn order_is_lem(word: &[u8], order: OrderAnswer) -> bool {
+fn order_is(word: &[u8], order: OrderAnswer) -> bool {
     match order {
         OrderAnswer::Less => decode::equals(word, b"less"),
         OrderAnswer::Equal => decode::equals(word, b"equal"),
@@ -450,7 +451,7 @@ fn ordered(
     let order = masked::cmp_masked(f, top, blocks, g, top2, blocks2, mask, size);
     let of_rows = order_of_rows(f, top, blocks, g, top2, blocks2, mask, size);
     let told = word(line, at);
-    order_is_lem(told, order) && order_is_lem(told, of_rows) && ends(line, past(at, told))
+    order_is(told, order) && order_is(told, of_rows) && ends(line, past(at, told))
 }
 
 fn key_line(line: &[u8], at: usize, config: u64) -> bool {
@@ -684,48 +685,43 @@ fn ask_all(text: &[u8], lines: &mut [u64; 25], others: &mut [u64; 25]) {
 
 // ---- the report
 
-fn say(words: &[u8]) {
-    io::write_all(STDOUT_FILENO, words);
+fn say(out: &mut impl Write, words: &[u8]) -> io::Result<()> {
+    out.write_all(words)
 }
 
-fn say_kind(kind: usize) {
+fn say_kind(out: &mut impl Write, kind: usize) -> io::Result<()> {
     match kind {
-        0 => say(b"row "),
-        1 => say(b"toggle "),
-        2 => say(b"difference "),
-        3 => say(b"order "),
-        4 => say(b"key "),
-        5 => say(b"count "),
-        6 => say(b"build "),
-        _ => say(b"iterate "),
+        0 => say(out, b"row "),
+        1 => say(out, b"toggle "),
+        2 => say(out, b"difference "),
+        3 => say(out, b"order "),
+        4 => say(out, b"key "),
+        5 => say(out, b"count "),
+        6 => say(out, b"build "),
+        _ => say(out, b"iterate "),
     }
 }
 
-fn say_config(i: usize) {
+fn say_config(out: &mut impl Write, i: usize) -> io::Result<()> {
     match i % 3 {
-        0 => say(b"7: "),
-        1 => say(b"10: "),
-        _ => say(b"13: "),
+        0 => say(out, b"7: "),
+        1 => say(out, b"10: "),
+        _ => say(out, b"13: "),
     }
 }
 
-fn say_counts(lines: u64, others: u64) {
-    io::print_decimal(STDOUT_FILENO, lines);
-    say(b" lines, answered otherwise: ");
-    io::print_decimal(STDOUT_FILENO, others);
-    say(b"\n");
+fn say_counts(out: &mut impl Write, lines: u64, others: u64) -> io::Result<()> {
+    writeln!(out, "{lines} lines, answered otherwise: {others}")
 }
 
-fn report(lines: &[u64; 25], others: &[u64; 25]) {
-    let mut i = 0;
-    while i < 24 {
-        say_kind(i / 3);
-        say_config(i);
-        say_counts(lines[i], others[i]);
-        i += 1;
+fn report(out: &mut impl Write, lines: &[u64; 25], others: &[u64; 25]) -> io::Result<()> {
+    for i in 0..24 {
+        say_kind(out, i / 3)?;
+        say_config(out, i)?;
+        say_counts(out, lines[i], others[i])?;
     }
-    say(b"not understood: ");
-    say_counts(lines[24], others[24]);
+    say(out, b"not understood: ")?;
+    say_counts(out, lines[24], others[24])
 }
 
 // Room for the list. The `ensures` tells only its length: the prover cannot follow a million zeros one by one.
@@ -735,11 +731,11 @@ fn room() -> [u8; 1000000]
     [0; 1000000]
 }
 
-fn main() {
+fn main(rt: HostRuntime) -> io::Result<()> {
     let mut text = room();
-    let n = io::read_full(STDIN_FILENO, &mut text);
+    let n = examples::read_full(&mut rt.stdin(), &mut text)?;
     let mut lines = [0u64; 25];
     let mut others = [0u64; 25];
     ask_all(&text[..n], &mut lines, &mut others);
-    report(&lines, &others);
+    report(&mut rt.stdout(), &lines, &others)
 }
