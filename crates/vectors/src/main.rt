@@ -97,18 +97,16 @@ fn no_part() -> Part {
 fn buckets(line: &[u8], at: usize, to: &mut [u32]) -> Part {
     let listed = number(line, at);
     let mut next = listed.next;
-    let mut i = 0;
-    while i < to.len() {
+    for (i, cell) in to.iter_mut().enumerate() {
         if listed.value == i as u64 {
             return Part { count: i, next };
         }
         let bucket = number(line, next);
-        if 4294967295 < bucket.value {
+        let Ok(value) = u32::try_from(bucket.value) else {
             return no_part();
-        }
-        to[i] = bucket.value as u32;
+        };
+        *cell = value;
         next = bucket.next;
-        i += 1;
     }
     no_part()
 }
@@ -120,7 +118,7 @@ fn row(line: &[u8], at: usize, to: &mut [u8]) -> Part {
     if decode::equals(digits, b"-") {
         return Part { count: 0, next };
     }
-    if digits.len() == 0 {
+    if digits.is_empty() {
         return no_part();
     }
     if to.len() <= digits.len() / 2 {
@@ -297,14 +295,12 @@ fn opened(f: Filter, top: &[u32], blocks: &[u64]) -> usize {
 
 // Whether a row gives these buckets, one by one, and then ends.
 fn steps_are(config: u64, row: &[u8], list: &[u32]) -> bool {
-    let mut i = 0;
-    while i < list.len() {
-        if !step_is(config, row, i, list[i]) {
+    for (i, bucket) in list.iter().enumerate() {
+        if !step_is(config, row, i, *bucket) {
             return false;
         }
-        i += 1;
     }
-    let last = row_reader::step_at(row, config, i);
+    let last = row_reader::step_at(row, config, list.len());
     let answer = last.answer;
     match answer {
         RowStep::Bucket(_) => false,
@@ -671,15 +667,13 @@ fn ask(line: &[u8], lines: &mut [u64; 25], others: &mut [u64; 25]) {
 
 fn ask_all(text: &[u8], lines: &mut [u64; 25], others: &mut [u64; 25]) {
     let mut at = 0;
-    let mut left = MOST_LINES;
-    while 0 < left {
+    for _ in 0..MOST_LINES {
         if text.len() <= at {
             return;
         }
         let line = until(text, at, b'\n');
         ask(line, lines, others);
         at = past(at, line);
-        left -= 1;
     }
 }
 
