@@ -1,17 +1,29 @@
-// The comparing program: standard input to standard output. A byte past the largest input is asked for, so that a longer input is
-// refused and not cut; a read that fails ends the program with its error, and nothing is answered.
+// The comparing program: standard input to standard output.
 #![tactic(auto)]
+
+ghost use Rattle.std.specs.Prelude.{IfSome, OnOk};
+ghost use Rattle.std.specs.Io.KnownBytes.{Appends};
+ghost use Rattle.sets.specs.Text.{compare_text};
 
 use compare_text::TextAnswer;
 use std::io;
-use std::io::Write;
+use std::io::{Read, Write};
 
-fn main(rt: HostRuntime) -> io::Result<()> {
-    let mut input = [0u8; 40001];
-    let n = examples::read_full(&mut rt.stdin(), &mut input)?;
+// Writes the answer to all that there is to read. A byte past the largest input is asked for, so that a longer input is refused and not
+// cut; a read that fails ends the program with its error, and nothing is answered.
+fn answer<R: Read, W: Write>(input: &mut R, output: &mut W) -> io::Result<()>
+    ensures { OnOk result (IfSome (R.remaining input.old)
+        (λ text. Appends (W.contents output.old) (W.contents output.new) (compare_text text))) }
+{
+    let mut text = [0u8; 40001];
+    let n = examples::read_full(input, &mut text)?;
     let mut out = [0u8; 322];
-    if let TextAnswer::Written(m) = compare_text::compare_text(&input[..n], &mut out) {
-        rt.stdout().write_all(&out[..m])?;
+    if let TextAnswer::Written(m) = compare_text::compare_text(&text[..n], &mut out) {
+        output.write_all(&out[..m])?;
     }
     Ok(())
+}
+
+fn main(rt: HostRuntime) -> io::Result<()> {
+    answer(&mut rt.stdin(), &mut rt.stdout())
 }
