@@ -2,10 +2,12 @@
 // that they write.
 #![tactic(auto)]
 
-ghost use Rattle.std.specs.Prelude.{◌≢◌, ◌<◌, ◌≤◌, length, take, IfOk, IfErr, OnOk, IsTrue, ◌↔◌, if◌then◌else◌, codes};
+ghost use Rattle.std.specs.Prelude.{◌≡◌, ◌≢◌, ◌<◌, ◌≤◌, length, take, IfOk, IfErr, OnOk, IsTrue, ◌↔◌, if◌then◌else◌, codes};
 ghost use Rattle.std.specs.Io.KnownBytes.{Appends, Consumes, IsAtEnd};
 ghost use Rattle.std.specs.Io.{StartsWith};
 ghost use Rattle.std.specs.IoError.{error_kind};
+ghost use Rattle.sizes.specs.declared.Refusal.{Refusal};
+ghost use Rattle.diff_count.specs.declared.Filter.{Filter};
 
 use diff_count::Made;
 use std::io;
@@ -47,7 +49,9 @@ pub fn filter_of(top: &mut [u32], blocks: &mut [u64], list: &[u32]) -> Made {
 }
 
 // Whether a filter was made, with so many top entries and that boundary.
-pub fn is_filter(made: Made, count: usize, boundary: usize) -> bool {
+pub fn is_filter(made: Made, count: usize, boundary: usize) -> bool
+    ensures { IsTrue result ↔ ((f : Filter) × (made ≡ Made.Ready f) × (f.count ≡ count) × (f.boundary ≡ boundary)) }
+{
     match made {
         Made::Ready(f) => f.count == count && f.boundary == boundary,
         Made::Refused(_) => false,
@@ -55,7 +59,10 @@ pub fn is_filter(made: Made, count: usize, boundary: usize) -> bool {
 }
 
 // The number of the refusal, 0 where there is none.
-pub fn refusal_of(made: Made) -> u8 {
+pub fn refusal_of(made: Made) -> u8
+    ensures ready { (f : Filter) → made ≡ Made.Ready f → result ≡ 0 }
+    ensures refused { (r : Refusal) → made ≡ Made.Refused r → result ≡ r.number }
+{
     match made {
         Made::Ready(_) => 0,
         Made::Refused(r) => r.number,

@@ -1,3 +1,4 @@
+-- `compare::answer` meets its contract: what was written stands in the buffer, is the answer to what was read, and so to the whole input.
 use Rattle.std.proofs.Common.{rules}
 use Rattle.compare_text.proofs.Theorems.{bytes_written, never_short}
 use Rattle.compare.proofs.Whole.{of_all}

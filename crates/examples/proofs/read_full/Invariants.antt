@@ -1,3 +1,4 @@
+-- `examples::read_full` meets its contract: what was read so far stands at the beginning of the buffer.
 use Rattle.std.proofs.Common.{◌≤◌, length, take}
 use Rattle.std.specs.Io.KnownBytes.{Consumes}
 use Rattle.examples.proofs.read_full.Given as goal
