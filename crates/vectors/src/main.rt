@@ -4,7 +4,7 @@
 // is answered otherwise; one whose kind or configuration is none is not understood.
 #![tactic(auto)]
 
-ghost use Rattle.std.specs.Prelude.{◌≡◌, length};
+ghost use Rattle.std.specs.Prelude.{◌≡◌, ◌<◌, length};
 
 use builder::Built;
 use counts::{CountAnswer, LimitedAnswer};
@@ -29,13 +29,13 @@ const LOST: usize = 0;
 
 // ---- fields of a line: a number, or a list's or a row's length; and the place of the next field
 
-#[derive(Drop)]
+#[derive(Clone, Copy)]
 struct Field {
     value: u64,
     next: usize,
 }
 
-#[derive(Drop)]
+#[derive(Clone, Copy)]
 struct Part {
     count: usize,
     next: usize,
@@ -64,7 +64,7 @@ fn word<'a>(line: &'a [u8], at: usize) -> &'a [u8] {
 
 // The place after a word or a line and its mark.
 fn past(at: usize, part: &[u8]) -> usize {
-    std::num::wrapping_add_usize(std::num::wrapping_add_usize(at, part.len()), 1)
+    at.wrapping_add(part.len()).wrapping_add(1)
 }
 
 // Whether the last field was the last word.
@@ -148,7 +148,7 @@ fn first_bytes<'a>(bytes: &'a [u8], n: usize) -> &'a [u8] {
 
 // ---- what our calls make of them
 
-#[derive(Drop)]
+#[derive(Clone, Copy)]
 struct Filtered {
     made: Made,
     next: usize,
@@ -506,7 +506,7 @@ fn counted(line: &[u8], at: usize, made: Made, top: &[u32], blocks: &[u64]) -> b
     counts_are(line, at, exact, limited) && opened(f, top, blocks) as u64 == number(line, at).value
 }
 
-#[derive(Drop)]
+#[derive(Clone, Copy)]
 struct Building {
     built: Built,
     next: usize,
@@ -591,65 +591,78 @@ fn iterate_line(line: &[u8], at: usize, config: u64) -> bool {
 
 // ---- the list
 
-// The kind of a line by its first word, 8 for a word that is none.
-fn kind_of(word: &[u8]) -> usize {
-    if decode::equals(word, b"row") {
-        return 0;
-    }
-    if decode::equals(word, b"toggle") {
-        return 1;
-    }
-    if decode::equals(word, b"difference") {
-        return 2;
-    }
-    if decode::equals(word, b"order") {
-        return 3;
-    }
-    if decode::equals(word, b"key") {
-        return 4;
-    }
-    if decode::equals(word, b"count") {
-        return 5;
-    }
-    if decode::equals(word, b"build") {
-        return 6;
-    }
-    if decode::equals(word, b"iterate") {
-        return 7;
-    }
-    8
+// What a line asks.
+#[derive(Clone, Copy)]
+enum Kind {
+    Row,
+    Toggle,
+    Difference,
+    Order,
+    Key,
+    Count,
+    Build,
+    Iterate,
 }
 
-fn answered(kind: usize, line: &[u8], at: usize, config: u64) -> bool {
+const KINDS: [Kind; 8] = [
+    Kind::Row,
+    Kind::Toggle,
+    Kind::Difference,
+    Kind::Order,
+    Kind::Key,
+    Kind::Count,
+    Kind::Build,
+    Kind::Iterate,
+];
+
+const CONFIGS: [u64; 3] = [7, 10, 13];
+
+// The kind of a line by its first word, none for a word that is none.
+fn kind_of(word: &[u8]) -> Option<Kind> {
+    match word {
+        b"row" => Some(Kind::Row),
+        b"toggle" => Some(Kind::Toggle),
+        b"difference" => Some(Kind::Difference),
+        b"order" => Some(Kind::Order),
+        b"key" => Some(Kind::Key),
+        b"count" => Some(Kind::Count),
+        b"build" => Some(Kind::Build),
+        b"iterate" => Some(Kind::Iterate),
+        _ => None,
+    }
+}
+
+fn answered(kind: Kind, line: &[u8], at: usize, config: u64) -> bool {
     match kind {
-        0 => row_line(line, at, config),
-        1 => toggle_line(line, at, config),
-        2 => difference_line(line, at, config),
-        3 => order_line(line, at, config),
-        4 => key_line(line, at, config),
-        5 => count_line(line, at, config),
-        6 => build_line(line, at, config),
-        7 => iterate_line(line, at, config),
-        _ => false,
+        Kind::Row => row_line(line, at, config),
+        Kind::Toggle => toggle_line(line, at, config),
+        Kind::Difference => difference_line(line, at, config),
+        Kind::Order => order_line(line, at, config),
+        Kind::Key => key_line(line, at, config),
+        Kind::Count => count_line(line, at, config),
+        Kind::Build => build_line(line, at, config),
+        Kind::Iterate => iterate_line(line, at, config),
     }
 }
 
 // The place of a kind and a configuration among the counters; the last is for lines that were not understood.
-fn counter_of(kind: usize, config: u64) -> usize {
-    if 7 < kind {
+fn counter_of(kind: Option<Kind>, config: u64) -> usize
+    ensures { result < 25 }
+{
+    let Some(kind) = kind else {
         return 24;
-    }
+    };
     match config {
-        7 => 3 * kind,
-        10 => 3 * kind + 1,
-        13 => 3 * kind + 2,
+        7 => 3 * kind as usize,
+        10 => 3 * kind as usize + 1,
+        13 => 3 * kind as usize + 2,
         _ => 24,
     }
 }
 
 fn count(counters: &mut [u64; 25], i: usize) {
     if i < 25 {
-        counters[i] = std::num::wrapping_add_u64(counters[i], 1);
+        counters[i] = counters[i].wrapping_add(1);
     }
 }
 
@@ -660,7 +673,7 @@ fn ask(line: &[u8], lines: &mut [u64; 25], others: &mut [u64; 25]) {
     let config = number(line, past(0, told));
     let counter = counter_of(kind, config.value);
     count(lines, counter);
-    if !answered(kind, line, config.next, config.value) {
+    if !kind.is_some_and(|k| answered(k, line, config.next, config.value)) {
         count(others, counter);
     }
 }
@@ -683,25 +696,21 @@ fn say(out: &mut impl Write, words: &[u8]) -> io::Result<()> {
     out.write_all(words)
 }
 
-fn say_kind(out: &mut impl Write, kind: usize) -> io::Result<()> {
+fn say_kind(out: &mut impl Write, kind: Kind) -> io::Result<()> {
     match kind {
-        0 => say(out, b"row "),
-        1 => say(out, b"toggle "),
-        2 => say(out, b"difference "),
-        3 => say(out, b"order "),
-        4 => say(out, b"key "),
-        5 => say(out, b"count "),
-        6 => say(out, b"build "),
-        _ => say(out, b"iterate "),
+        Kind::Row => say(out, b"row "),
+        Kind::Toggle => say(out, b"toggle "),
+        Kind::Difference => say(out, b"difference "),
+        Kind::Order => say(out, b"order "),
+        Kind::Key => say(out, b"key "),
+        Kind::Count => say(out, b"count "),
+        Kind::Build => say(out, b"build "),
+        Kind::Iterate => say(out, b"iterate "),
     }
 }
 
-fn say_config(out: &mut impl Write, i: usize) -> io::Result<()> {
-    match i % 3 {
-        0 => say(out, b"7: "),
-        1 => say(out, b"10: "),
-        _ => say(out, b"13: "),
-    }
+fn say_config(out: &mut impl Write, config: u64) -> io::Result<()> {
+    write!(out, "{config}: ")
 }
 
 fn say_counts(out: &mut impl Write, lines: u64, others: u64) -> io::Result<()> {
@@ -709,10 +718,13 @@ fn say_counts(out: &mut impl Write, lines: u64, others: u64) -> io::Result<()> {
 }
 
 fn report(out: &mut impl Write, lines: &[u64; 25], others: &[u64; 25]) -> io::Result<()> {
-    for i in 0..24 {
-        say_kind(out, i / 3)?;
-        say_config(out, i)?;
-        say_counts(out, lines[i], others[i])?;
+    for kind in KINDS {
+        for config in CONFIGS {
+            let i = counter_of(Some(kind), config);
+            say_kind(out, kind)?;
+            say_config(out, config)?;
+            say_counts(out, lines[i], others[i])?;
+        }
     }
     say(out, b"not understood: ")?;
     say_counts(out, lines[24], others[24])

@@ -1,4 +1,4 @@
--- So many zeros are so many.
+-- `vectors::room` meets its contract: so many zeros are so many.
 use Rattle.std.proofs.Common.{ℕ, sym}
 use Rattle.std.proofs.lemmas.List.{length-replicate}
 use Rattle.vectors.proofs.room.Goals as goal
