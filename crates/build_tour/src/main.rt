@@ -5,6 +5,7 @@
 use builder::{Builder, Built};
 use diff_count::Made;
 use examples::{blocks_are, cells_are, end_line, is_filter, refusal_of, tell};
+use std::io;
 
 // ---- building
 
@@ -230,18 +231,19 @@ fn short_targets() -> bool {
     refusal_of(made) == 3 && top[0] == 1 && blocks[0] == 1
 }
 
-fn main() {
-    tell(the_split_does_not_matter());
-    tell(below_the_split_a_bit_flips());
-    tell(a_full_area_is_compacted());
-    tell(doubles_cancel_and_the_split_stays());
-    tell(the_split_never_passes_the_end());
-    tell(raising_from_100());
-    tell(an_old_record_may_still_fit());
-    tell(builders_that_are_not_made());
-    tell(a_list_out_of_range_flips_none());
-    tell(what_is_no_builder());
-    tell(a_pending_bucket_out_of_range());
-    tell(short_targets());
-    end_line();
+fn main(rt: HostRuntime) -> io::Result<()> {
+    let mut out = rt.stdout();
+    tell(&mut out, the_split_does_not_matter())?;
+    tell(&mut out, below_the_split_a_bit_flips())?;
+    tell(&mut out, a_full_area_is_compacted())?;
+    tell(&mut out, doubles_cancel_and_the_split_stays())?;
+    tell(&mut out, the_split_never_passes_the_end())?;
+    tell(&mut out, raising_from_100())?;
+    tell(&mut out, an_old_record_may_still_fit())?;
+    tell(&mut out, builders_that_are_not_made())?;
+    tell(&mut out, a_list_out_of_range_flips_none())?;
+    tell(&mut out, what_is_no_builder())?;
+    tell(&mut out, a_pending_bucket_out_of_range())?;
+    tell(&mut out, short_targets())?;
+    end_line(&mut out)
 }

@@ -1,8 +1,43 @@
-// What the programs that try our calls share: filters to try them on, comparers, and the letters that they write.
+// What the programs share: how an input is read; and for those that try our calls, filters to try them on, comparers, and the letters
+// that they write.
 #![tactic(auto)]
 
+ghost use Rattle.std.specs.Prelude.{◌≡◌, ◌≢◌, ◌<◌, ◌≤◌, length, take, IfOk, IfErr, OnOk, IsTrue, ◌↔◌, if◌then◌else◌, codes};
+ghost use Rattle.std.specs.Io.KnownBytes.{Appends, Consumes, IsAtEnd};
+ghost use Rattle.std.specs.Io.{StartsWith};
+ghost use Rattle.std.specs.IoError.{error_kind};
+ghost use Rattle.sizes.specs.declared.Refusal.{Refusal};
+ghost use Rattle.diff_count.specs.declared.Filter.{Filter};
+
 use diff_count::Made;
-use libc::STDOUT_FILENO;
+use std::io;
+use std::io::{ErrorKind, Read, Write};
+
+// ---- an input
+
+// Reads until the buffer is full or the input ends, and tells how many bytes stand at its beginning then. A read that a signal
+// interrupts is tried again.
+#[tactic(auto, using(crate::proofs::Filling::consumes_more, crate::proofs::Filling::consumes_none))]
+pub fn read_full<R: Read>(reader: &mut R, buf: &mut [u8]) -> io::Result<usize>
+    ensures fits { IfOk result (λ n. n ≤ length buf.new) }
+    ensures bytes { IfOk result (λ n. Consumes (R.remaining reader.old) (R.remaining reader.new) (take n buf.new)) }
+    ensures end { IfOk result (λ n. n < length buf.new → IsAtEnd (R.remaining reader.new)) }
+    ensures retried { IfErr result (λ e. error_kind e ≢ ErrorKind.Interrupted) }
+{
+    let mut done = 0;
+    for _ in 0..u64::MAX {
+        if done == buf.len() {
+            return Ok(done);
+        }
+        match reader.read(&mut buf[done..]) {
+            Ok(0) => return Ok(done),
+            Ok(n) => done += n,
+            Err(e) if e.kind() == ErrorKind::Interrupted => {}
+            Err(e) => return Err(e),
+        }
+    }
+    Err(ErrorKind::TimedOut.into())
+}
 
 // ---- filters
 
@@ -14,7 +49,9 @@ pub fn filter_of(top: &mut [u32], blocks: &mut [u64], list: &[u32]) -> Made {
 }
 
 // Whether a filter was made, with so many top entries and that boundary.
-pub fn is_filter(made: Made, count: usize, boundary: usize) -> bool {
+pub fn is_filter(made: Made, count: usize, boundary: usize) -> bool
+    ensures { IsTrue result ↔ ((f : Filter) × (made ≡ Made.Ready f) × (f.count ≡ count) × (f.boundary ≡ boundary)) }
+{
     match made {
         Made::Ready(f) => f.count == count && f.boundary == boundary,
         Made::Refused(_) => false,
@@ -22,7 +59,10 @@ pub fn is_filter(made: Made, count: usize, boundary: usize) -> bool {
 }
 
 // The number of the refusal, 0 where there is none.
-pub fn refusal_of(made: Made) -> u8 {
+pub fn refusal_of(made: Made) -> u8
+    ensures ready { (f : Filter) → made ≡ Made.Ready f → result ≡ 0 }
+    ensures refused { (r : Refusal) → made ≡ Made.Refused r → result ≡ r.number }
+{
     match made {
         Made::Ready(_) => 0,
         Made::Refused(r) => r.number,
@@ -32,46 +72,34 @@ pub fn refusal_of(made: Made) -> u8 {
 // ---- areas. For bytes, `decode::starts_with` does the same
 
 // Whether a slice begins with those cells.
-pub fn cells_are(cells: &[u32], wanted: &[u32]) -> bool {
-    if cells.len() < wanted.len() {
-        return false;
-    }
-    let mut i = 0;
-    while i < wanted.len() {
-        if cells[i] != wanted[i] {
-            return false;
-        }
-        i += 1;
-    }
-    true
+pub fn cells_are(cells: &[u32], wanted: &[u32]) -> bool
+    ensures { IsTrue result ↔ StartsWith cells.now wanted.now }
+{
+    cells.starts_with(wanted)
 }
 
 // Whether a slice begins with those blocks.
-pub fn blocks_are(blocks: &[u64], wanted: &[u64]) -> bool {
-    if blocks.len() < wanted.len() {
-        return false;
-    }
-    let mut i = 0;
-    while i < wanted.len() {
-        if blocks[i] != wanted[i] {
-            return false;
-        }
-        i += 1;
-    }
-    true
+pub fn blocks_are(blocks: &[u64], wanted: &[u64]) -> bool
+    ensures { IsTrue result ↔ StartsWith blocks.now wanted.now }
+{
+    blocks.starts_with(wanted)
 }
 
 // ---- letters
 
 // Writes y where our calls answered as they should, and n where they did not.
-pub fn tell(right: bool) {
+pub fn tell<W: Write>(out: &mut W, right: bool) -> io::Result<()>
+    ensures { OnOk result (Appends (W.contents out.old) (W.contents out.new) (if right then codes "y" else codes "n")) }
+{
     if right {
-        io::write_all(STDOUT_FILENO, b"y");
+        out.write_all(b"y")
     } else {
-        io::write_all(STDOUT_FILENO, b"n");
+        out.write_all(b"n")
     }
 }
 
-pub fn end_line() {
-    io::write_all(STDOUT_FILENO, b"\n");
+pub fn end_line<W: Write>(out: &mut W) -> io::Result<()>
+    ensures { OnOk result (Appends (W.contents out.old) (W.contents out.new) (codes "\n")) }
+{
+    out.write_all(b"\n")
 }

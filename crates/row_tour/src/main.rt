@@ -7,6 +7,7 @@ use examples::{blocks_are, cells_are, end_line, filter_of, is_filter, refusal_of
 use masked::OrderAnswer;
 use row_reader::RowStep;
 use rows::{OpenAnswer, WriteAnswer};
+use std::io;
 
 // ---- writing
 
@@ -203,22 +204,23 @@ fn stepping_on_a_row_that_no_set_has() -> bool {
     refuses(&row, 7, 1, 5) && refuses(&row, 8, 1, 1)
 }
 
-fn main() {
-    tell(the_empty_row());
-    tell(a_full_list_down_to_bucket_0_has_no_bit_part());
-    tell(a_row_cut_at_24_bytes_is_refused());
-    tell(a_row_cut_between_entries_is_another_row());
-    tell(the_thirteenth_is_a_bit());
-    tell(boundaries_64_and_65());
-    tell(a_short_buffer_stays());
-    tell(two_entries_are_read());
-    tell(rows_that_no_set_has());
-    tell(two_before_five());
-    tell(written_and_read_back());
-    tell(the_order_of_two_rows());
-    tell(the_first_row_is_judged_first());
-    tell(the_greater_row_itself());
-    tell(stepping_through_a_row());
-    tell(stepping_on_a_row_that_no_set_has());
-    end_line();
+fn main(rt: HostRuntime) -> io::Result<()> {
+    let mut out = rt.stdout();
+    tell(&mut out, the_empty_row())?;
+    tell(&mut out, a_full_list_down_to_bucket_0_has_no_bit_part())?;
+    tell(&mut out, a_row_cut_at_24_bytes_is_refused())?;
+    tell(&mut out, a_row_cut_between_entries_is_another_row())?;
+    tell(&mut out, the_thirteenth_is_a_bit())?;
+    tell(&mut out, boundaries_64_and_65())?;
+    tell(&mut out, a_short_buffer_stays())?;
+    tell(&mut out, two_entries_are_read())?;
+    tell(&mut out, rows_that_no_set_has())?;
+    tell(&mut out, two_before_five())?;
+    tell(&mut out, written_and_read_back())?;
+    tell(&mut out, the_order_of_two_rows())?;
+    tell(&mut out, the_first_row_is_judged_first())?;
+    tell(&mut out, the_greater_row_itself())?;
+    tell(&mut out, stepping_through_a_row())?;
+    tell(&mut out, stepping_on_a_row_that_no_set_has())?;
+    end_line(&mut out)
 }

@@ -4,6 +4,7 @@
 
 use compare_text::TextAnswer;
 use examples::{end_line, tell};
+use std::io;
 
 fn the_answer_stands_at_the_beginning() -> bool {
     let mut out = [170u8; 322];
@@ -21,8 +22,9 @@ fn a_buffer_that_is_too_short_stays() -> bool {
     }
 }
 
-fn main() {
-    tell(the_answer_stands_at_the_beginning());
-    tell(a_buffer_that_is_too_short_stays());
-    end_line();
+fn main(rt: HostRuntime) -> io::Result<()> {
+    let mut out = rt.stdout();
+    tell(&mut out, the_answer_stands_at_the_beginning())?;
+    tell(&mut out, a_buffer_that_is_too_short_stays())?;
+    end_line(&mut out)
 }

@@ -6,6 +6,8 @@ use counts::{CountAnswer, LimitedAnswer};
 use diff_count::{Filter, Made};
 use examples::{blocks_are, cells_are, end_line, filter_of, is_filter, refusal_of, tell};
 use masked::{KeyAnswer, OrderAnswer};
+use std::io;
+use std::io::Write;
 
 // ---- making
 
@@ -44,24 +46,30 @@ fn an_old_record_no_longer_fits(f: Filter, top: &mut [u32], blocks: &mut [u64]) 
     is_filter(f.toggle(top, blocks, &[5]), 2, 0) && refusal_of(f.toggle(top, blocks, &[6])) == 8
 }
 
-fn toggling_one_bucket() {
+fn toggling_one_bucket(out: &mut impl Write) -> io::Result<()> {
     let mut top = [0u32; 12];
     let mut blocks = [0u64; 130];
     let Made::Ready(f) = filter_of(&mut top, &mut blocks, &[8319]) else {
-        return;
+        return Ok(());
     };
-    tell(a_bucket_out_of_range_flips_none(f, &mut top, &mut blocks));
-    tell(an_old_record_no_longer_fits(f, &mut top, &mut blocks));
+    tell(
+        out,
+        a_bucket_out_of_range_flips_none(f, &mut top, &mut blocks),
+    )?;
+    tell(out, an_old_record_no_longer_fits(f, &mut top, &mut blocks))
 }
 
-fn toggling_twelve_buckets() {
+fn toggling_twelve_buckets(out: &mut impl Write) -> io::Result<()> {
     let mut top = [0u32; 12];
     let mut blocks = [0u64; 130];
     let twelve = [12u32, 11, 10, 9, 8, 7, 6, 5, 4, 3, 2, 1];
     let Made::Ready(f) = filter_of(&mut top, &mut blocks, &twelve) else {
-        return;
+        return Ok(());
     };
-    tell(the_thirteenth_goes_to_the_blocks(f, &mut top, &mut blocks));
+    tell(
+        out,
+        the_thirteenth_goes_to_the_blocks(f, &mut top, &mut blocks),
+    )
 }
 
 // ---- two filters
@@ -132,16 +140,22 @@ fn two_configurations(
     count_of(counts::exact_difference(a, top, blocks, b, top2, blocks2)) == 1009
 }
 
-fn two_filters() {
+fn two_filters(out: &mut impl Write) -> io::Result<()> {
     let mut top = [0u32; 12];
     let mut blocks = [0u64; 130];
     let mut top2 = [0u32; 64];
     let mut blocks2 = [0u64; 1040];
     let a = filter_of(&mut top, &mut blocks, &[5, 7]);
     let b = filter_of(&mut top2, &mut blocks2, &[7, 9]);
-    tell(in_exactly_one_of_two(a, &top, &blocks, b, &top2, &blocks2));
+    tell(
+        out,
+        in_exactly_one_of_two(a, &top, &blocks, b, &top2, &blocks2),
+    )?;
     let c = diff_count::empty(10, &mut top2, &mut blocks2);
-    tell(two_configurations(a, &top, &blocks, c, &top2, &blocks2));
+    tell(
+        out,
+        two_configurations(a, &top, &blocks, c, &top2, &blocks2),
+    )
 }
 
 // ---- counts
@@ -204,18 +218,21 @@ fn equal_keys_decide_nothing(
 }
 
 // {5} and {5, 0}.
-fn two_filters_with_one_key() {
+fn two_filters_with_one_key(out: &mut impl Write) -> io::Result<()> {
     let mut top = [0u32; 12];
     let mut blocks = [0u64; 130];
     let mut top2 = [0u32; 12];
     let mut blocks2 = [0u64; 130];
     let Made::Ready(a) = filter_of(&mut top, &mut blocks, &[5]) else {
-        return;
+        return Ok(());
     };
     let Made::Ready(b) = filter_of(&mut top2, &mut blocks2, &[5, 0]) else {
-        return;
+        return Ok(());
     };
-    tell(equal_keys_decide_nothing(a, &top, &blocks, b, &top2, &blocks2));
+    tell(
+        out,
+        equal_keys_decide_nothing(a, &top, &blocks, b, &top2, &blocks2),
+    )
 }
 
 // The low byte of a key; or 1000 and the number of the refusal.
@@ -251,17 +268,18 @@ fn masks_taken_and_refused() -> bool {
     masks_of_a_filter(f, &top, &blocks)
 }
 
-fn main() {
-    tell(short_slices_and_unknown_numbers());
-    tell(toggling_twice_leaves_nothing());
-    toggling_one_bucket();
-    toggling_twelve_buckets();
-    two_filters();
-    tell(limited_with(7616, 13, 7616));
-    tell(limited_with(7615, 12, 0));
-    two_filters_with_one_key();
-    tell(fifth_bucket_in_the_low_byte(64, 1));
-    tell(fifth_bucket_in_the_low_byte(63, 0));
-    tell(masks_taken_and_refused());
-    end_line();
+fn main(rt: HostRuntime) -> io::Result<()> {
+    let mut out = rt.stdout();
+    tell(&mut out, short_slices_and_unknown_numbers())?;
+    tell(&mut out, toggling_twice_leaves_nothing())?;
+    toggling_one_bucket(&mut out)?;
+    toggling_twelve_buckets(&mut out)?;
+    two_filters(&mut out)?;
+    tell(&mut out, limited_with(7616, 13, 7616))?;
+    tell(&mut out, limited_with(7615, 12, 0))?;
+    two_filters_with_one_key(&mut out)?;
+    tell(&mut out, fifth_bucket_in_the_low_byte(64, 1))?;
+    tell(&mut out, fifth_bucket_in_the_low_byte(63, 0))?;
+    tell(&mut out, masks_taken_and_refused())?;
+    end_line(&mut out)
 }

@@ -4,17 +4,18 @@
 // is answered otherwise; one whose kind or configuration is none is not understood.
 #![tactic(auto)]
 
-ghost use Rattle.std.specs.Prelude.{◌≡◌, length};
+ghost use Rattle.std.specs.Prelude.{◌≡◌, ◌<◌, length};
 
 use builder::Built;
 use counts::{CountAnswer, LimitedAnswer};
 use decode::{Found, Hex, Number};
 use diff_count::{Filter, Made};
 use examples::{blocks_are, cells_are};
-use libc::{STDIN_FILENO, STDOUT_FILENO};
 use masked::{KeyAnswer, OrderAnswer};
 use row_reader::RowStep;
 use rows::{OpenAnswer, WriteAnswer};
+use std::io;
+use std::io::Write;
 
 // more lines than the list has
 const MOST_LINES: usize = 10000;
@@ -28,13 +29,13 @@ const LOST: usize = 0;
 
 // ---- fields of a line: a number, or a list's or a row's length; and the place of the next field
 
-#[derive(Drop)]
+#[derive(Clone, Copy)]
 struct Field {
     value: u64,
     next: usize,
 }
 
-#[derive(Drop)]
+#[derive(Clone, Copy)]
 struct Part {
     count: usize,
     next: usize,
@@ -63,7 +64,7 @@ fn word<'a>(line: &'a [u8], at: usize) -> &'a [u8] {
 
 // The place after a word or a line and its mark.
 fn past(at: usize, part: &[u8]) -> usize {
-    std::num::wrapping_add_usize(std::num::wrapping_add_usize(at, part.len()), 1)
+    at.wrapping_add(part.len()).wrapping_add(1)
 }
 
 // Whether the last field was the last word.
@@ -96,18 +97,16 @@ fn no_part() -> Part {
 fn buckets(line: &[u8], at: usize, to: &mut [u32]) -> Part {
     let listed = number(line, at);
     let mut next = listed.next;
-    let mut i = 0;
-    while i < to.len() {
+    for (i, cell) in to.iter_mut().enumerate() {
         if listed.value == i as u64 {
             return Part { count: i, next };
         }
         let bucket = number(line, next);
-        if 4294967295 < bucket.value {
+        let Ok(value) = u32::try_from(bucket.value) else {
             return no_part();
-        }
-        to[i] = bucket.value as u32;
+        };
+        *cell = value;
         next = bucket.next;
-        i += 1;
     }
     no_part()
 }
@@ -119,7 +118,7 @@ fn row(line: &[u8], at: usize, to: &mut [u8]) -> Part {
     if decode::equals(digits, b"-") {
         return Part { count: 0, next };
     }
-    if digits.len() == 0 {
+    if digits.is_empty() {
         return no_part();
     }
     if to.len() <= digits.len() / 2 {
@@ -149,7 +148,7 @@ fn first_bytes<'a>(bytes: &'a [u8], n: usize) -> &'a [u8] {
 
 // ---- what our calls make of them
 
-#[derive(Drop)]
+#[derive(Clone, Copy)]
 struct Filtered {
     made: Made,
     next: usize,
@@ -251,7 +250,7 @@ fn counts_are(line: &[u8], at: usize, exact: CountAnswer, limited: LimitedAnswer
         && ends(line, bound.next)
 }
 
-fn order_is_lem(word: &[u8], order: OrderAnswer) -> bool {
+fn order_is(word: &[u8], order: OrderAnswer) -> bool {
     match order {
         OrderAnswer::Less => decode::equals(word, b"less"),
         OrderAnswer::Equal => decode::equals(word, b"equal"),
@@ -296,14 +295,12 @@ fn opened(f: Filter, top: &[u32], blocks: &[u64]) -> usize {
 
 // Whether a row gives these buckets, one by one, and then ends.
 fn steps_are(config: u64, row: &[u8], list: &[u32]) -> bool {
-    let mut i = 0;
-    while i < list.len() {
-        if !step_is(config, row, i, list[i]) {
+    for (i, bucket) in list.iter().enumerate() {
+        if !step_is(config, row, i, *bucket) {
             return false;
         }
-        i += 1;
     }
-    let last = row_reader::step_at(row, config, i);
+    let last = row_reader::step_at(row, config, list.len());
     let answer = last.answer;
     match answer {
         RowStep::Bucket(_) => false,
@@ -450,7 +447,7 @@ fn ordered(
     let order = masked::cmp_masked(f, top, blocks, g, top2, blocks2, mask, size);
     let of_rows = order_of_rows(f, top, blocks, g, top2, blocks2, mask, size);
     let told = word(line, at);
-    order_is_lem(told, order) && order_is_lem(told, of_rows) && ends(line, past(at, told))
+    order_is(told, order) && order_is(told, of_rows) && ends(line, past(at, told))
 }
 
 fn key_line(line: &[u8], at: usize, config: u64) -> bool {
@@ -509,7 +506,7 @@ fn counted(line: &[u8], at: usize, made: Made, top: &[u32], blocks: &[u64]) -> b
     counts_are(line, at, exact, limited) && opened(f, top, blocks) as u64 == number(line, at).value
 }
 
-#[derive(Drop)]
+#[derive(Clone, Copy)]
 struct Building {
     built: Built,
     next: usize,
@@ -594,65 +591,78 @@ fn iterate_line(line: &[u8], at: usize, config: u64) -> bool {
 
 // ---- the list
 
-// The kind of a line by its first word, 8 for a word that is none.
-fn kind_of(word: &[u8]) -> usize {
-    if decode::equals(word, b"row") {
-        return 0;
-    }
-    if decode::equals(word, b"toggle") {
-        return 1;
-    }
-    if decode::equals(word, b"difference") {
-        return 2;
-    }
-    if decode::equals(word, b"order") {
-        return 3;
-    }
-    if decode::equals(word, b"key") {
-        return 4;
-    }
-    if decode::equals(word, b"count") {
-        return 5;
-    }
-    if decode::equals(word, b"build") {
-        return 6;
-    }
-    if decode::equals(word, b"iterate") {
-        return 7;
-    }
-    8
+// What a line asks.
+#[derive(Clone, Copy)]
+enum Kind {
+    Row,
+    Toggle,
+    Difference,
+    Order,
+    Key,
+    Count,
+    Build,
+    Iterate,
 }
 
-fn answered(kind: usize, line: &[u8], at: usize, config: u64) -> bool {
+const KINDS: [Kind; 8] = [
+    Kind::Row,
+    Kind::Toggle,
+    Kind::Difference,
+    Kind::Order,
+    Kind::Key,
+    Kind::Count,
+    Kind::Build,
+    Kind::Iterate,
+];
+
+const CONFIGS: [u64; 3] = [7, 10, 13];
+
+// The kind of a line by its first word, none for a word that is none.
+fn kind_of(word: &[u8]) -> Option<Kind> {
+    match word {
+        b"row" => Some(Kind::Row),
+        b"toggle" => Some(Kind::Toggle),
+        b"difference" => Some(Kind::Difference),
+        b"order" => Some(Kind::Order),
+        b"key" => Some(Kind::Key),
+        b"count" => Some(Kind::Count),
+        b"build" => Some(Kind::Build),
+        b"iterate" => Some(Kind::Iterate),
+        _ => None,
+    }
+}
+
+fn answered(kind: Kind, line: &[u8], at: usize, config: u64) -> bool {
     match kind {
-        0 => row_line(line, at, config),
-        1 => toggle_line(line, at, config),
-        2 => difference_line(line, at, config),
-        3 => order_line(line, at, config),
-        4 => key_line(line, at, config),
-        5 => count_line(line, at, config),
-        6 => build_line(line, at, config),
-        7 => iterate_line(line, at, config),
-        _ => false,
+        Kind::Row => row_line(line, at, config),
+        Kind::Toggle => toggle_line(line, at, config),
+        Kind::Difference => difference_line(line, at, config),
+        Kind::Order => order_line(line, at, config),
+        Kind::Key => key_line(line, at, config),
+        Kind::Count => count_line(line, at, config),
+        Kind::Build => build_line(line, at, config),
+        Kind::Iterate => iterate_line(line, at, config),
     }
 }
 
 // The place of a kind and a configuration among the counters; the last is for lines that were not understood.
-fn counter_of(kind: usize, config: u64) -> usize {
-    if 7 < kind {
+fn counter_of(kind: Option<Kind>, config: u64) -> usize
+    ensures { result < 25 }
+{
+    let Some(kind) = kind else {
         return 24;
-    }
+    };
     match config {
-        7 => 3 * kind,
-        10 => 3 * kind + 1,
-        13 => 3 * kind + 2,
+        7 => 3 * kind as usize,
+        10 => 3 * kind as usize + 1,
+        13 => 3 * kind as usize + 2,
         _ => 24,
     }
 }
 
 fn count(counters: &mut [u64; 25], i: usize) {
     if i < 25 {
-        counters[i] = std::num::wrapping_add_u64(counters[i], 1);
+        counters[i] = counters[i].wrapping_add(1);
     }
 }
 
@@ -663,69 +673,61 @@ fn ask(line: &[u8], lines: &mut [u64; 25], others: &mut [u64; 25]) {
     let config = number(line, past(0, told));
     let counter = counter_of(kind, config.value);
     count(lines, counter);
-    if !answered(kind, line, config.next, config.value) {
+    if !kind.is_some_and(|k| answered(k, line, config.next, config.value)) {
         count(others, counter);
     }
 }
 
 fn ask_all(text: &[u8], lines: &mut [u64; 25], others: &mut [u64; 25]) {
     let mut at = 0;
-    let mut left = MOST_LINES;
-    while 0 < left {
+    for _ in 0..MOST_LINES {
         if text.len() <= at {
             return;
         }
         let line = until(text, at, b'\n');
         ask(line, lines, others);
         at = past(at, line);
-        left -= 1;
     }
 }
 
 // ---- the report
 
-fn say(words: &[u8]) {
-    io::write_all(STDOUT_FILENO, words);
+fn say(out: &mut impl Write, words: &[u8]) -> io::Result<()> {
+    out.write_all(words)
 }
 
-fn say_kind(kind: usize) {
+fn say_kind(out: &mut impl Write, kind: Kind) -> io::Result<()> {
     match kind {
-        0 => say(b"row "),
-        1 => say(b"toggle "),
-        2 => say(b"difference "),
-        3 => say(b"order "),
-        4 => say(b"key "),
-        5 => say(b"count "),
-        6 => say(b"build "),
-        _ => say(b"iterate "),
+        Kind::Row => say(out, b"row "),
+        Kind::Toggle => say(out, b"toggle "),
+        Kind::Difference => say(out, b"difference "),
+        Kind::Order => say(out, b"order "),
+        Kind::Key => say(out, b"key "),
+        Kind::Count => say(out, b"count "),
+        Kind::Build => say(out, b"build "),
+        Kind::Iterate => say(out, b"iterate "),
     }
 }
 
-fn say_config(i: usize) {
-    match i % 3 {
-        0 => say(b"7: "),
-        1 => say(b"10: "),
-        _ => say(b"13: "),
-    }
+fn say_config(out: &mut impl Write, config: u64) -> io::Result<()> {
+    write!(out, "{config}: ")
 }
 
-fn say_counts(lines: u64, others: u64) {
-    io::print_decimal(STDOUT_FILENO, lines);
-    say(b" lines, answered otherwise: ");
-    io::print_decimal(STDOUT_FILENO, others);
-    say(b"\n");
+fn say_counts(out: &mut impl Write, lines: u64, others: u64) -> io::Result<()> {
+    writeln!(out, "{lines} lines, answered otherwise: {others}")
 }
 
-fn report(lines: &[u64; 25], others: &[u64; 25]) {
-    let mut i = 0;
-    while i < 24 {
-        say_kind(i / 3);
-        say_config(i);
-        say_counts(lines[i], others[i]);
-        i += 1;
+fn report(out: &mut impl Write, lines: &[u64; 25], others: &[u64; 25]) -> io::Result<()> {
+    for kind in KINDS {
+        for config in CONFIGS {
+            let i = counter_of(Some(kind), config);
+            say_kind(out, kind)?;
+            say_config(out, config)?;
+            say_counts(out, lines[i], others[i])?;
+        }
     }
-    say(b"not understood: ");
-    say_counts(lines[24], others[24]);
+    say(out, b"not understood: ")?;
+    say_counts(out, lines[24], others[24])
 }
 
 // Room for the list. The `ensures` tells only its length: the prover cannot follow a million zeros one by one.
@@ -735,11 +737,11 @@ fn room() -> [u8; 1000000]
     [0; 1000000]
 }
 
-fn main() {
+fn main(rt: HostRuntime) -> io::Result<()> {
     let mut text = room();
-    let n = io::read_full(STDIN_FILENO, &mut text);
+    let n = examples::read_full(&mut rt.stdin(), &mut text)?;
     let mut lines = [0u64; 25];
     let mut others = [0u64; 25];
     ask_all(&text[..n], &mut lines, &mut others);
-    report(&lines, &others);
+    report(&mut rt.stdout(), &lines, &others)
 }
