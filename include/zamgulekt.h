@@ -2,7 +2,7 @@
  * Zamgulekt for C and C++: filters of sets of buckets, their rows, and what two of them have in
  * common. docs/MANUAL.md tells what each call is for; here stands how C calls it.
  *
- * The functions are in libexports.a, which `rt lib` in crates/exports makes in crates/exports/out:
+ * The functions are in libexports.a, which bindings/archive makes in crates/exports/out:
  *
  *     cc -I include program.c crates/exports/out/libexports.a
  *

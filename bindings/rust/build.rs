@@ -1,5 +1,5 @@
 //! Tells where the archive `libexports.a` stands: in the folder that ZAMGULEKT_LIB_DIR names, or
-//! where `rt lib` in crates/exports puts it.
+//! where `bindings/archive` puts it.
 
 use std::{env, path::Path, process};
 
@@ -10,7 +10,7 @@ fn main() {
     let archive = folder.join("libexports.a");
     if !archive.is_file() {
         eprintln!(
-            "{} is not there: make it by `rt lib` in crates/exports,",
+            "{} is not there: make it by bindings/archive,",
             archive.display()
         );
         eprintln!("or name its folder in the environment variable ZAMGULEKT_LIB_DIR");
