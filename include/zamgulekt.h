@@ -2,9 +2,9 @@
  * Zamgulekt for C and C++: filters of sets of buckets, their rows, and what two of them have in
  * common. docs/MANUAL.md tells what each call is for; here stands how C calls it.
  *
- * The functions are in libexports.a, which `rt staticlib exports` makes in target/staticlib:
+ * The functions are in libexports.a, which bindings/archive makes in crates/exports/out:
  *
- *     cc -I include program.c target/staticlib/libexports.a
+ *     cc -I include program.c crates/exports/out/libexports.a
  *
  * Each function returns 0, or the number of a refusal. What it answers besides, it writes to the
  * memory that it was lent.

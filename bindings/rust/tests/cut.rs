@@ -1,5 +1,5 @@
 //! Which beginnings of a row are rows themselves, tried at every length: the whole row, and a whole
-//! number of entries below M. It is proved of all rows: `open-beginning` and `open-cut` in
+//! number of entries below M. It is proved of all rows: `open_beginning` and `open_cut` in
 //! crates/rows/proofs/Theorems.antt.
 
 use zamgulekt::{open, sizes_of, Filter};
