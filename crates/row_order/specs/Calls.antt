@@ -21,7 +21,7 @@ rows_order n mask size first second = order_of (W (config_at n)) mask size (show
 unfoldable pub cmp_rows_of : ℕ → ℕ → ℕ → List ℕ → List ℕ → OrderAnswer
 cmp_rows_of n mask size first second = order_answer (rows_verdict n mask size first second) (rows_order n mask size first second)
 
--- a slice as a program can see it: where it begins, and its elements (it has a ghost name besides, which a part of it does not share)
+-- a slice as a program can see it: where it begins, and its elements
 abbrev pub Seen : Type 0
 Seen = (ℕ × ℕ) × List ℕ
 
