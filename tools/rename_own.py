@@ -1,5 +1,5 @@
 #!/usr/bin/env python3
-"""Brings this repository's own definitions and lemmas to the spelling of today's Rattle, after /opt/rattle/port/port.py has run.
+"""Brings this repository's own definitions and lemmas to the spelling of today's Rattle, after the kit's port.py has run.
 
 usage: python3 tools/rename_own.py      at the top of the repository
 

@@ -8,6 +8,7 @@ ghost use Rattle.std.specs.Io.{StartsWith};
 ghost use Rattle.std.specs.IoError.{error_kind};
 ghost use Rattle.sizes.specs.declared.Refusal.{Refusal};
 ghost use Rattle.diff_count.specs.declared.Filter.{Filter};
+ghost use Rattle.examples.specs.Trying.{Tried};
 
 use diff_count::Made;
 use std::io;
@@ -41,7 +42,10 @@ pub fn read_full<R: Read>(reader: &mut R, buf: &mut [u8]) -> io::Result<usize>
 
 // ---- filters
 
-pub fn filter_of(top: &mut [u32], blocks: &mut [u64], list: &[u32]) -> Made {
+// The empty filter of configuration 7, with the list toggled.
+pub fn filter_of(top: &mut [u32], blocks: &mut [u64], list: &[u32]) -> Made
+    ensures { Tried top.old blocks.old list.now result top.new blocks.new }
+{
     match diff_count::empty(7, top, blocks) {
         Made::Ready(f) => f.toggle(top, blocks, list),
         Made::Refused(r) => Made::Refused(r),
