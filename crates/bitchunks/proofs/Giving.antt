@@ -1,10 +1,11 @@
--- The walk past the blocks in which a mask keeps no member, and the members given one by one. Assumes nothing.
+-- A walk under a mask, and the members given one by one. Assumes nothing.
 use mathlib.Core.Path.{◌≡◌, refl, sym, ap, ap₂, ◌∙◌, subst}
 use mathlib.Core.Bool.{Bool, false, cond, and-false}
 use mathlib.Core.List.{List, [], ◌∷◌}
 use Prim.Native.Nat.{ℕ, suc, ◌+◌, ◌-◌, ◌*◌, ◌^◌, ◌≤◌, ◌<◌}
 use native.Mathlib.Decide.{dec_lt}
 use native.Mathlib.Omega.{arith}
+use Rattle.std.specs.Prelude.{Option, None, Some}
 use lib.Bits.{bit_and, bit_xor}
 use lib.Dec.{eqb}
 use borrow.Author.Tests.{eq-eqb, lt-ltb, le-ltb}
@@ -13,69 +14,25 @@ use Rattle.sets.specs.Words.{block_at, digit, TopDigit}
 use Rattle.sets.specs.Masks.{kept, laid}
 use Rattle.sets.proofs.Laws.{differ_comm, flip_other, members_gap, members_head, members_none, members_same}
 use Rattle.sets.proofs.Masks.{kept_block, kept_same}
-use Rattle.sets.proofs.Words.{digit_pow, digit_word, digit_xor, digit_zero, word_none_back}
-use Rattle.bitchunks.specs.Walk.{Ahead, Next}
-use Rattle.bitchunks.specs.Ones.{Gives, NextKept, left, rest}
+use Rattle.sets.proofs.Words.{digit_pow, digit_word, digit_xor, digit_zero}
+use Rattle.bitchunks.specs.Walk.{Ahead, Next, Passed}
+use Rattle.bitchunks.specs.Ones.{Gives, left, rest}
 use Rattle.bitchunks.specs.declared.Cursor.{Cursor}
-use Rattle.bitchunks.specs.declared.NextChunk.{NextChunk}
-use Rattle.bitchunks.specs.declared.NextChunk.TheVariants.{Chunk, Nothing}
-use Rattle.bitchunks.specs.declared.NextOne.{NextOne}
+use Rattle.bitchunks.specs.declared.Ones.{Ones}
 
--- ---- past the blocks in which the mask keeps nothing
+-- ---- what a mask keeps of a walk
 
--- no member that the mask keeps stands in the blocks from `end` up to `start`
-pub record Skipping (S : Set) (tops : List ℕ) (mask size start passed end : ℕ) : Type 0 where
-  pub ahead : Ahead tops passed end
-  pub within : end ≤ start
-  pub empty : Empty (kept mask size S) (64 * end) (64 * start)
+module _ {S : Set} (mask size : ℕ) where
+  kept_empty : {a b : ℕ} → Empty S a b → Empty (kept mask size S) a b
+  kept_empty h p x y = kept_same mask size S none p (h p x y) ∙ and-false (laid mask size p)
 
-pub skip_start : {tops : List ℕ} {start passed : ℕ} (S : Set) (mask size : ℕ) → Ahead tops passed start
-    → Skipping S tops mask size start passed start
-skip_start S mask size a = record { ahead = a; within = omega arith; empty = λ p h l. absurd (omega arith) }
-
-module _ {S : Set} {tops : List ℕ} {mask size start passed end : ℕ} (t : Skipping S tops mask size start passed end) where
-  -- a step's gap joins what was passed before
-  skip_gap : (k : ℕ) → Empty S (64 * k) (64 * end) → Empty (kept mask size S) (64 * k) (64 * start)
-  skip_gap k g p a b = go (dec_lt p (64 * end))
-    where
-      go : Dec (p < 64 * end) → kept mask size S p ≡ false
-      go (yes h) = kept_same mask size S none p (g p a h) ∙ and-false (laid mask size p)
-      go (no h) = t.empty p (omega arith) b
-
-  pub skip_none : {r : NextChunk} → r ≡ Nothing → Next S tops end r → Empty (kept mask size S) 0 (64 * start)
-  skip_none q n = skip_gap 0 (subst (Next S tops end) q n)
-
-  module _ {r : NextChunk} {block : ℕ} {c : Cursor} (q : r ≡ Chunk block c) (n : Next S tops end r) where
-    step : Next S tops end (Chunk block c)
-    step = subst (Next S tops end) q n
-
-    pub skip_under : c.end < end
-    skip_under = step.0
-
-    module _ {keeps : ℕ} (m : keeps ≡ bit_and block (block_at (laid mask size) c.end)) where
-      kept_is : keeps ≡ block_at (kept mask size S) c.end
-      kept_is = m ∙ ap (λ (x : ℕ). bit_and x (block_at (laid mask size) c.end)) step.2.is ∙ sym (kept_block mask size S c.end)
-
-      -- the mask keeps nothing of the block
-      pub skip_turn : keeps ≡ 0 → Skipping S tops mask size start c.passed c.end
-      skip_turn z =
-          record {
-            ahead = step.2.ahead;
-            within = omega (arith, skip_under, t.within);
-            empty = λ p a b. go p a b (dec_lt p (64 * suc c.end));
-          }
-        where
-          go : (p : ℕ) → 64 * c.end ≤ p → p < 64 * start → Dec (p < 64 * suc c.end) → kept mask size S p ≡ false
-          go p a b (yes h) =
-              let x : p ≡ 64 * c.end + (p - 64 * c.end) = omega arith in
-              ap (kept mask size S) x ∙ word_none_back (kept mask size S) (64 * c.end) 64 (sym kept_is ∙ z) (p - 64 * c.end) (omega arith)
-          go p a b (no h) = skip_gap (suc c.end) step.1 p (omega arith) b
-
-      pub skip_end : (keeps ≡ 0 → ⊥) → NextKept (kept mask size S) tops start (Chunk keeps c)
-      skip_end z = (
-        omega (arith, z),
-        (omega (arith, skip_under, t.within), skip_gap (suc c.end) step.1, record { is = kept_is; ahead = step.2.ahead }),
-      )
+  pub kept_merge : {tops : List ℕ} {i block passed keeps : ℕ} → Passed S tops i block passed
+      → keeps ≡ bit_and block (block_at (laid mask size) i) → Passed (kept mask size S) tops i keeps passed
+  kept_merge {i = i} t e =
+      record {
+        is = e ∙ ap (λ (x : ℕ). bit_and x (block_at (laid mask size) i)) t.is ∙ sym (kept_block mask size S i);
+        ahead = t.ahead;
+      }
 
 -- ---- what is left
 
@@ -154,7 +111,7 @@ pub seek_start : {tops : List ℕ} {passed end : ℕ} (S : Set) (block : ℕ) �
 seek_start S block a = record { ahead = a; same = refl }
 
 module _ {S : Set} {tops : List ℕ} {start first passed end block : ℕ} (t : Seeking S tops start first passed end block) where
-  pub seek_end : (o : NextOne) → ((R : Set) (l : List ℕ) → Ahead l passed end → Gives R l (rest R end block) o)
+  pub seek_end : (o : Option (ℕ × Ones)) → ((R : Set) (l : List ℕ) → Ahead l passed end → Gives R l (rest R end block) o)
       → Gives S tops (rest S start first) o
   seek_end o g = subst (λ (l : List ℕ). Gives S tops l o) (sym t.same) (g S tops t.ahead)
 
@@ -163,9 +120,9 @@ module _ {S : Set} {tops : List ℕ} {start first passed end block : ℕ} (t : S
     seek_below : rest S start first ≡ members S (64 * end)
     seek_below = t.same ∙ ap (rest S end) z ∙ rest_none S end
 
-    pub seek_none : Next S tops end Nothing → rest S start first ≡ []
+    pub seek_none : Next S tops end None → rest S start first ≡ []
     seek_none n = seek_below ∙ members_none S (64 * end) (λ p l. n p (omega arith) l)
 
-    pub seek_turn : {next : ℕ} {c : Cursor} → Next S tops end (Chunk next c) → Seeking S tops start first c.passed c.end next
+    pub seek_turn : {next : ℕ} {c : Cursor} → Next S tops end (Some (next, c)) → Seeking S tops start first c.passed c.end next
     seek_turn {next} {c} n =
         record { ahead = n.2.ahead; same = seek_below ∙ rest_block S c.end end n.0 n.1 ∙ ap (rest S c.end) (sym n.2.is) }

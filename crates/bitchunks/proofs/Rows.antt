@@ -1,30 +1,29 @@
 -- The entries and blocks that stand in a row's bytes. Assumes nothing.
-use mathlib.Core.Path.{◌≡◌, refl, sym, ap, ap₂, ◌∙◌}
+use mathlib.Core.Path.{◌≡◌, refl, sym, ap, ◌∙◌, subst}
 use mathlib.Core.Logic.{◌⊎◌, inl, inr}
 use mathlib.Core.List.{List}
 use Prim.Native.Nat.{ℕ, ◌+◌, ◌-◌, ◌*◌, ◌≤◌, ◌<◌}
-use native.Mathlib.Nat.{suc-mul, mul_comm, mul-le-mul_right}
+use native.Mathlib.Nat.{suc-mul, mul-le-mul_right}
 use native.Mathlib.Omega.{arith}
 use lib.ListN.{get_or, take, drop}
 use Rattle.sets.specs.Row.{little, numbers}
 use Rattle.sets.proofs.Bytes.{length_numbers}
 use Rattle.unaligned.proofs.Runs.{number_read, numbers_at}
 use Rattle.bitchunks.specs.Walk.{bits_at}
+use Rattle.bitchunks.specs.Rows.{width_bytes, width_of}
+use Rattle.bitchunks.specs.declared.Width.{Width}
+use Rattle.bitchunks.specs.declared.Width.TheVariants.{Two, Four}
 use Rattle.bitchunks.proofs.Walk.{bits_in, bits_past}
 
 -- ---- an entry
 
--- the width that is not 2
-pub width_four : {w : ℕ} → (w ≡ 2) ⊎ (w ≡ 4) → (w ≡ 2 → ⊥) → w ≡ 4
-width_four (inl e) h = absurd (h e)
-width_four (inr e) h = e
+pub width_bytes_of : {n : ℕ} → (n ≡ 2) ⊎ (n ≡ 4) → width_bytes (width_of n) ≡ n
+width_bytes_of (inl e) = subst (λ (x : ℕ). width_bytes (width_of x) ≡ x) (sym e) refl
+width_bytes_of (inr e) = subst (λ (x : ℕ). width_bytes (width_of x) ≡ x) (sym e) refl
 
-module _ (w v place : ℕ) (e : w ≡ v) where
-  pub entry_in : {len : ℕ} → place * w + w ≤ len → v * place + v ≤ len
-  entry_in h = omega (arith, h, e, mul_comm v place, ap (λ (x : ℕ). place * x) e)
-
-  pub entry_is_lem : (row : List ℕ) → little (take v (drop (v * place) row)) ≡ little (take w (drop (place * w) row))
-  entry_is_lem row = ap₂ (λ (x y : ℕ). little (take x (drop y row))) (sym e) (mul_comm v place ∙ ap (λ (x : ℕ). place * x) (sym e))
+pub width_is : (w : Width) {n : ℕ} → width_bytes w ≡ n → w ≡ width_of n
+width_is Two e = ap width_of e
+width_is Four e = ap width_of e
 
 module _ (w : ℕ) {count place : ℕ} (h : place < count) where
   pub entry_room : {len : ℕ} → count * w ≤ len → place * w + w ≤ len

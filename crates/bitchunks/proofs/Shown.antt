@@ -7,24 +7,24 @@ use Prim.Native.Nat.{ℕ, ◌+◌, ◌-◌, ◌*◌, ◌/◌, ◌%◌, ◌^◌, 
 use native.Mathlib.Nat.{div-add-mod', mul-le-mul_right}
 use native.Mathlib.Decide.{dec_lt}
 use native.Mathlib.Omega.{arith}
-use lib.ListN.{length, take, drop, get_or-eq_default}
+use lib.ListN.{length, length-take, take, drop, get_or-eq_default}
 use lib.Seq.{get_or-take, length-take-le}
 use borrow.Author.Tests.{le-leb}
 use Rattle.sets.specs.Sets.{Agree, Falls, Set, among, below}
 use Rattle.sets.specs.Words.{digit, held}
 use Rattle.sets.specs.Configurations.{Config, W, blocks_for}
 use Rattle.sets.specs.Filter.{Holds, joined, shown}
-use Rattle.sets.specs.Row.{row_block_count, row_blocks, row_boundary, row_entries, shown_row, top_bytes}
+use Rattle.sets.specs.Row.{numbers, row_block_count, row_blocks, row_boundary, row_entries, shown_row, top_bytes}
 use Rattle.sets.proofs.Laws.{below_in, below_out}
 use Rattle.sets.proofs.Words.{held_zero}
-use Rattle.sets.proofs.Split.{edge_low, set_split}
 use Rattle.sets.proofs.Shown.{shown_set}
 use Rattle.sets.proofs.Canon.{Canon, holds_canon}
 use Rattle.sets.proofs.Bytes.{length_numbers}
 use Rattle.sets.proofs.Rows.{shown_row_lem}
 use Rattle.sets.proofs.Reading.{Faultless}
-use Rattle.bitchunks.specs.Walk.{Walks, filter_set, merged}
-use Rattle.bitchunks.specs.Rows.{RowWalks, layout_of, row_set}
+use Rattle.bitchunks.specs.Walk.{Ahead, PartsOf, merged}
+use Rattle.bitchunks.specs.Rows.{RowWalks, entries, layout_of, row_set}
+use Rattle.bitchunks.proofs.Rows.{width_bytes_of}
 use Rattle.bitchunks.proofs.Walk.{ahead_start}
 
 -- ---- what blocks hold that have nothing at or above the edge
@@ -43,7 +43,7 @@ module _ (tops : List ℕ) (edge : ℕ) (bits : List ℕ) (R : Set) (p : ℕ) wh
 
 -- the walk looks at the blocks for the boundary
 pub filter_walk : {m k : ℕ} {top blocks : List ℕ} {count edge : ℕ} → blocks_for edge ≤ length blocks → Canon m k top blocks count edge
-    → Agree (64 * k) (filter_set top count blocks (blocks_for edge)) (shown top blocks count edge)
+    → Agree (64 * k) (merged (take count top) 0 (take (blocks_for edge) blocks)) (shown top blocks count edge)
 unfolding held
 filter_walk {m} {k} {top} {blocks} {count} {edge} h C p l = merged_joined (take count top) edge (take n blocks) (held blocks) p low high
   where
@@ -66,23 +66,32 @@ filter_walk {m} {k} {top} {blocks} {count} {edge} h C p l = merged_joined (take 
             (omega (arith, length-take-le n blocks h))) (omega arith)
 
 -- so from the filter of a set it goes over that set
-pub holds_walk : {m k : ℕ} {top blocks : List ℕ} {count edge : ℕ} {S : Set} → 0 < m → 64 * k ≤ 2 ^ 32 → m ≤ length top → k ≤ length blocks
-    → Holds m k top blocks count edge S
-    → Walks top count blocks (blocks_for edge) 0 k × Agree (64 * k) (filter_set top count blocks (blocks_for edge)) S
-holds_walk {m} {k} {top} {blocks} {count} {edge} {S} z small n nb H =
-    let C = holds_canon z H in
-    let b : blocks_for edge ≤ length blocks = omega (arith, H.edge_is, edge_low z (set_split m (64 * k) z S)) in (
-      (omega (arith, C.few), b, ahead_start (take count top) k C.falling small),
-      λ p h. filter_walk b C p h ∙ shown_set H z p h,
-    )
+pub holds_walk : {m k : ℕ} {tops bits top blocks : List ℕ} {count edge : ℕ} {S : Set} → 0 < m → 64 * k ≤ 2 ^ 32
+    → PartsOf tops bits top count blocks edge → Holds m k top blocks count edge S
+    → Ahead tops 0 k × Agree (64 * k) (merged tops 0 bits) S
+holds_walk {m} {k} {tops} {bits} {top} {blocks} {count} {edge} {S} z small P H = (
+  ahead_start tops k (subst (Falls (64 * k)) (sym P.tops_are) C.falling) small,
+  λ p h. ap₂ (λ (x y : List ℕ). merged x 0 y p) P.tops_are P.bits_are ∙ filter_walk within C p h ∙ shown_set H z p h,
+)
+  where
+    C : Canon m k top blocks count edge
+    C = holds_canon z H
+
+    within : blocks_for edge ≤ length blocks
+    within = omega (arith, P.bits_count, ap length P.bits_are, length-take (blocks_for edge) blocks)
 
 -- ---- a row
 
+pub entries_are : (c : Config) (bs : List ℕ) → (c.entry ≡ 2) ⊎ (c.entry ≡ 4) → entries (layout_of c bs) bs ≡ row_entries c bs
+unfolding row_entries
+entries_are c bs w = ap (λ (x : ℕ). numbers x (min c.M (length bs / c.entry)) bs) (width_bytes_of w)
+
 -- the walk looks at all its blocks
-pub row_walk : (c : Config) (bs : List ℕ) → Faultless c bs → (p : ℕ) → row_set (layout_of c bs) bs p ≡ shown_row c bs p
-unfolding row_blocks row_entries
-row_walk c bs F p =
-    merged_joined (row_entries c bs) (row_boundary c bs) (row_blocks c bs) (held (row_blocks c bs)) p (λ u. refl) high
+pub row_walk : (c : Config) (bs : List ℕ) → (c.entry ≡ 2) ⊎ (c.entry ≡ 4) → Faultless c bs → (p : ℕ) → row_set (layout_of c bs) bs p ≡ shown_row c bs p
+unfolding row_blocks
+row_walk c bs w F p =
+    ap (λ (l : List ℕ). merged l 0 (row_blocks c bs) p) (entries_are c bs w)
+    ∙ merged_joined (row_entries c bs) (row_boundary c bs) (row_blocks c bs) (held (row_blocks c bs)) p (λ u. refl) high
     ∙ ap (λ (S : Set). S p) (sym (shown_row_lem c bs))
   where
     high : row_boundary c bs ≤ p → held (row_blocks c bs) p ≡ false
@@ -97,15 +106,14 @@ row_walk c bs F p =
 pub row_walks : (c : Config) (bs : List ℕ) (k : ℕ) → (c.entry ≡ 2) ⊎ (c.entry ≡ 4) → W c ≡ 64 * k → W c ≤ 2 ^ 32
     → length bs ≤ 2 ^ 32 → Faultless c bs
     → RowWalks (layout_of c bs) bs 0 k
-unfolding row_entries
 row_walks c bs k w e small len F = (
   record {
-    width = w;
-    entries_in = within;
+    entries_in = subst (λ (x : ℕ). min c.M (length bs / c.entry) * x ≤ length bs) (sym (width_bytes_of w)) within;
     blocks_in = omega arith;
     small = omega arith;
   },
-  ahead_start (row_entries c bs) k (subst (λ (x : ℕ). Falls x (row_entries c bs)) e F.falling) (omega arith),
+  subst (λ (l : List ℕ). Ahead l 0 k) (sym (entries_are c bs w))
+      (ahead_start (row_entries c bs) k (subst (λ (x : ℕ). Falls x (row_entries c bs)) e F.falling) (omega arith)),
 )
   where
     within : min c.M (length bs / c.entry) * c.entry ≤ length bs

@@ -1,5 +1,5 @@
 -- The members of the xor of two walks, counted block by block. Assumes nothing.
-use mathlib.Core.Path.{◌≡◌, refl, sym, ap, ◌∙◌, subst}
+use mathlib.Core.Path.{◌≡◌, refl, sym, ap, ◌∙◌}
 use mathlib.Core.Bool.{Bool, false, cond, ◌&&◌}
 use mathlib.Core.List.{List}
 use Prim.Native.Nat.{ℕ, suc, ◌+◌, ◌-◌, ◌*◌, ◌%◌, ◌≤◌, ◌<◌}
@@ -17,10 +17,7 @@ use Rattle.sets.proofs.Counts.{members_onward, limited_few, limited_is_lem, onwa
 use Rattle.sets.proofs.Words.{ones_word, seen, word_same}
 use Rattle.bitchunks.proofs.Counts.{last_blocks, last_near, limited_of_lem}
 use Rattle.bitchunks.specs.Walk.{Ahead}
-use Rattle.bitchunks.specs.Xor.{Crossed, NextApart}
-use Rattle.bitchunks.specs.declared.Cursors.{Cursors}
-use Rattle.bitchunks.specs.declared.NextXor.{NextXor}
-use Rattle.bitchunks.specs.declared.NextXor.TheVariants.{Chunk, Nothing}
+use Rattle.bitchunks.specs.Xor.{Crossed}
 use Rattle.bitchunks.specs.Counts.{FullAt, LimitedTo}
 
 -- ---- the loop
@@ -32,10 +29,6 @@ pub record Total (S R : Set) (floor : ℕ) (tops others : List ℕ) (k total pas
       ≡ length (members (onward (64 * floor) (apart S R)) (64 * k))
   pub ahead : Ahead tops passed end
   pub other_ahead : Ahead others other end
-
-pub total_start : {S R : Set} {floor : ℕ} {tops others : List ℕ} {passed other end : ℕ} → Ahead tops passed end → Ahead others other end
-    → Total S R floor tops others end 0 passed other end
-total_start a b = record { within = omega arith; are = omega arith; ahead = a; other_ahead = b }
 
 module _ {S R : Set} {floor : ℕ} {tops others : List ℕ} {k total passed other end : ℕ}
     (t : Total S R floor tops others k total passed other end) where
@@ -51,14 +44,6 @@ module _ {S R : Set} {floor : ℕ} {tops others : List ℕ} {k total passed othe
       go : (b : ℕ) → b < 64 * end → Dec (b < 64 * floor) → onward (64 * floor) (apart S R) b ≡ false
       go b l (yes u) = onward_out (64 * floor) (apart S R) b u
       go b l (no u) = onward_in (64 * floor) (apart S R) b (omega arith) ∙ g b (omega arith) l
-
-  -- what the step tells
-  pub total_none : {r : NextXor} → r ≡ Nothing → NextApart S R tops others end r → Empty (apart S R) 0 (64 * end)
-  total_none e n = subst (NextApart S R tops others end) e n
-
-  pub total_next : {r : NextXor} {block first : ℕ} {c : Cursors} → r ≡ Chunk block first c → NextApart S R tops others end r
-      → Crossed S R tops others end c.end block first c.passed c.passed2
-  total_next e n = subst (NextApart S R tops others end) e n
 
   pub total_turn : {i block first p q : ℕ} (r : ℕ) → Crossed S R tops others end i block first p q → floor ≤ i → r ≡ ones block
       → Total S R floor tops others k (total + r) p q i

@@ -10,10 +10,10 @@ use native.Mathlib.Omega.{arith}
 use lib.Dec.{eqb, leb}
 use lib.Bits.{bit_or, bit_xor, or_lt}
 use lib.Pow.{pow-lt}
-use lib.ListN.{length, get_or, take, drop, get_or-eq_default}
-use lib.Seq.{drop-cons, drop-length, get_or-take, length-take-le}
+use lib.ListN.{length, get_or, drop, get_or-eq_default}
+use lib.Seq.{drop-cons, drop-length}
 use borrow.Author.Tests.{eq-eqb, ne_eqb, le-leb, lt-leb}
-use Rattle.sets.specs.Sets.{Empty, Falls, Set, among, apart}
+use Rattle.sets.specs.Sets.{Empty, Falls, Set, among}
 use Rattle.sets.specs.Words.{block_at, digit, held}
 use Rattle.sets.proofs.Laws.{falls_more, odd_above, apart_empty}
 use Rattle.sets.proofs.Tests.{falls_among}
@@ -57,15 +57,6 @@ merged_digit tops first bits i j h =
         let e : 64 * i + j - 64 * first ≡ 64 * (i - first) + j = omega arith in
         rw (le-leb (64 * first) (64 * i + j) (omega arith), le-leb first i l, e) (held_block bits (i - first) j h)
     go (no l) = rw (lt-leb (64 * first) (64 * i + j) (omega arith), lt-leb first i (omega arith)) (sym (digit_zero j))
-
--- ---- the entries of a filter
-
-module _ (top : List ℕ) (count : ℕ) (h : count ≤ length top) where
-  pub cell_count : length (take count top) ≡ count
-  cell_count = length-take-le count top h
-
-  pub cell_entry : (p at : ℕ) → at < count → p ≡ get_or top at 0 → p ≡ get_or (take count top) at 0
-  cell_entry p at l e = e ∙ sym (get_or-take count top at 0 l)
 
 -- ---- where a walk starts
 
@@ -128,8 +119,10 @@ module _ {S : Set} {tops : List ℕ} {i at block : ℕ} (t : Merging S tops i at
       }
 
   -- no entry is left
-  pub merge_end : {n : ℕ} → length tops ≡ n → n ≤ at → Passed S tops i block at
-  merge_end len h = merge_done (subst (Falls (64 * i)) (sym (none_left tops at t.some (omega arith))) tt)
+  pub merge_end : {n : ℕ} → length tops ≡ n → n ≤ at → Passed S tops i block n
+  merge_end {n} len h =
+      let e : at ≡ n = omega (arith, t.some) in
+      subst (Passed S tops i block) e (merge_done (subst (Falls (64 * i)) (sym (none_left tops at t.some (omega arith))) tt))
 
   -- the next entry stands in a lower block
   pub merge_stop : {n : ℕ} (p : ℕ) → length tops ≡ n → at < n → p ≡ get_or tops at 0 → (p / 64 ≡ i → ⊥) → Passed S tops i block at
@@ -222,9 +215,6 @@ module _ {S R : Set} {tops others : List ℕ} {passed other end x y : ℕ} (a : 
 
   there : Reached R others other end e
   there = reached_more e (omega arith) (omega (arith, r.within, t.within)) b t
-
-  pub cross_none : e ≡ 0 → Empty (apart S R) 0 (64 * end)
-  cross_none z = apart_empty S R 0 (64 * end) (step_none here z) (step_none there z)
 
   module _ (z : e ≡ 0 → ⊥) where
     pub cross_ahead : Ahead tops passed (suc (e - 1))

@@ -1,11 +1,10 @@
 -- The counts of one walk and of the xor of two.
-use Rattle.std.specs.Prelude.{◌≡◌, List, ℕ, suc, ◌*◌, ◌≤◌, ◌<◌, length}
+use Rattle.std.specs.Prelude.{◌≡◌, List, ℕ, suc, ◌*◌, ◌≤◌, ◌<◌, length, Result, MatchResult}
 use Rattle.sets.specs.Sets.{Set, apart, members, onward}
 use Rattle.sets.specs.Configurations.{blocks_for}
 use Rattle.sets.specs.Filter.{exact_count, last_entry, limited_bound, limited_count}
 use Rattle.bitchunks.specs.Walk.{Ahead}
-use Rattle.bitchunks.specs.declared.Topped.{Topped}
-use Rattle.bitchunks.specs.declared.Topped.TheVariants.{Full, Few}
+use Rattle.bitchunks.specs.declared.Cursors.{Cursors}
 
 -- the limited count and its bound
 pub record LimitedTo (m n window : ℕ) (S : Set) (count bound : ℕ) : Type 0 where
@@ -22,6 +21,7 @@ pub record FullAt (S R : Set) (tops others : List ℕ) (k m total upper passed o
   pub other_ahead : Ahead others other end
 
 -- m members were met; or all were met, and they are fewer
-abbrev pub FirstOf : Set → Set → List ℕ → List ℕ → ℕ → ℕ → Topped → Type 0
-FirstOf S R tops others k m (Full total upper c) = FullAt S R tops others k m total upper c.passed c.passed2 c.end
-FirstOf S R tops others k m (Few total) = (total ≡ exact_count (64 * k) (apart S R)) × (total < m)
+abbrev pub FirstOf : Set → Set → List ℕ → List ℕ → ℕ → ℕ → Result (ℕ × ℕ × Cursors) ℕ → Type 0
+FirstOf S R tops others k m r =
+    MatchResult r (λ x. FullAt S R tops others k m x.0 x.1 x.2.passed x.2.passed2 x.2.end)
+    (λ total. (total ≡ exact_count (64 * k) (apart S R)) × (total < m))

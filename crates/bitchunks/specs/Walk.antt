@@ -1,17 +1,20 @@
 -- A walk over the blocks of a set, from the top block down.
-use Rattle.std.specs.Prelude.{◌≡◌, cond, ◌&&◌, ◌||◌, ◌⊎◌, List, ℕ, suc, ◌+◌, ◌-◌, ◌*◌, ◌^◌, ◌≤◌, ◌<◌, leb, length, get_or, take, drop}
+use Rattle.std.specs.Prelude.{◌≡◌, cond, ◌&&◌, ◌||◌, ◌⊎◌, List, ℕ, suc, ◌+◌, ◌-◌, ◌*◌, ◌^◌, ◌≤◌, ◌<◌, leb, length, get_or, take, drop, Option, MatchOption}
 use Rattle.sets.specs.Sets.{Empty, Falls, Set, among}
 use Rattle.sets.specs.Words.{block_at, digit, held}
-use Rattle.bitchunks.specs.declared.NextChunk.{NextChunk}
-use Rattle.bitchunks.specs.declared.NextChunk.TheVariants.{Chunk, Nothing}
+use Rattle.sets.specs.Configurations.{blocks_for}
+use Rattle.bitchunks.specs.declared.Cursor.{Cursor}
 
 -- the set that a walk goes over: the entries, and what the blocks from the number `first` on hold
 unfoldable pub merged : List ℕ → ℕ → List ℕ → Set
 merged tops first bits p = among tops p || (leb (64 * first) p && held bits (p - 64 * first))
 
--- a filter's: its first `count` top entries and its first n blocks
-abbrev pub filter_set : List ℕ → ℕ → List ℕ → ℕ → Set
-filter_set top count blocks n = merged (take count top) 0 (take n blocks)
+-- tops are the first `count` entries of a filter, and bits its blocks up to the edge
+pub record PartsOf (tops bits top : List ℕ) (count : ℕ) (blocks : List ℕ) (edge : ℕ) : Type 0 where
+  pub tops_are : tops ≡ take count top
+  pub tops_count : length tops ≡ count
+  pub bits_are : bits ≡ take (blocks_for edge) blocks
+  pub bits_count : length bits ≡ blocks_for edge
 
 -- the block of the number i among the blocks from the number `first` on
 unfoldable pub bits_at : ℕ → List ℕ → ℕ → ℕ
@@ -23,10 +26,6 @@ pub record Ahead (tops : List ℕ) (passed end : ℕ) : Type 0 where
   pub falling : Falls (64 * end) (drop passed tops)
   pub rest : (p : ℕ) → p < 64 * end → among tops p ≡ among (drop passed tops) p
   pub small : 64 * end ≤ 2 ^ 32
-
--- what a walk over a filter asks
-abbrev pub Walks : List ℕ → ℕ → List ℕ → ℕ → ℕ → ℕ → Type 0
-Walks top count blocks n passed end = (count ≤ length top) × (n ≤ length blocks) × Ahead (take count top) passed end
 
 -- of the blocks ahead only those below e may hold a member
 pub record Reached (S : Set) (tops : List ℕ) (passed end e : ℕ) : Type 0 where
@@ -55,6 +54,7 @@ pub record Passed (S : Set) (tops : List ℕ) (i block passed : ℕ) : Type 0 wh
 
 -- what a step gives that has the blocks below `end` ahead: a block and the cursor past it, whose `end` is the block's number, with
 -- nothing between; or nothing is left
-abbrev pub Next : Set → List ℕ → ℕ → NextChunk → Type 0
-Next S tops end (Chunk block c) = (c.end < end) × Empty S (64 * suc c.end) (64 * end) × Passed S tops c.end block c.passed
-Next S tops end Nothing = Empty S 0 (64 * end)
+abbrev pub Next : Set → List ℕ → ℕ → Option (ℕ × Cursor) → Type 0
+Next S tops end r =
+    MatchOption r (Empty S 0 (64 * end)) (λ x.
+    (x.1.end < end) × Empty S (64 * suc x.1.end) (64 * end) × Passed S tops x.1.end x.0 x.1.passed)

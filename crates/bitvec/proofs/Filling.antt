@@ -5,10 +5,11 @@ use Prim.Native.Nat.{ℕ, suc, ◌+◌, ◌-◌, ◌*◌, ◌/◌, ◌%◌, ◌�
 use native.Mathlib.Decide.{dec_lt}
 use native.Mathlib.Numerals.{add-one}
 use native.Mathlib.Omega.{arith}
+use borrow.Rule.Slice.PartMut.{put_mid}
 use lib.Bits.{bit_xor}
-use lib.ListN.{length, get_or, take, drop, set, replicate, length-append, length-drop, length-replicate, length-set, take-append-drop}
-use lib.ListN.{get_or-replicate, replicate-append-replicate, get_or-append}
-use lib.Seq.{drop-cons, drop_at, drop-drop, set_at, take_at, get_or-take, get_or-append-add, length-take-le}
+use lib.ListN.{length, get_or, take, drop, set, replicate, length-append, length-drop, length-replicate, length-set}
+use lib.ListN.{get_or-replicate, get_or-append}
+use lib.Seq.{drop-cons, drop-length, drop_at, drop-drop, set_at, take_at, get_or-take, get_or-append-add, length-take-le}
 use Rattle.sets.specs.Sets.{apart, tabulate}
 use Rattle.sets.specs.Words.{digit, held}
 use Rattle.sets.specs.Filter.{filled}
@@ -54,6 +55,10 @@ fill_end {values} {k} {old} {now} {i} h t =
     let e : i ≡ k = omega (arith, t.high) in
     t.are ∙ ap (λ (x : ℕ). filled (values x) x old) e
 
+-- all the cells are written
+pub filled_all : (xs old : List ℕ) → filled xs (length old) old ≡ xs
+filled_all xs old = rw (drop-length, append-nil)
+
 -- ---- zeros from the cell a on
 
 abbrev pub zeros : ℕ → List ℕ → ℕ → List ℕ
@@ -62,29 +67,26 @@ zeros a old i = take a old ++ replicate (i - a) 0
 length_zeros : (a : ℕ) (old : List ℕ) (i : ℕ) → a ≤ length old → length (zeros a old i) ≡ a + (i - a)
 length_zeros a old i n = simp (length-append, length-take-le a old n, length-replicate)
 
-pub zero_start : (a b : ℕ) (old : List ℕ) → a ≤ b → b ≤ length old → Filling (zeros a old) b old old a
-zero_start a b old h n =
-    let z : a - a ≡ 0 = omega arith in
-    let e : zeros a old a ≡ take a old = ap (λ (x : ℕ). take a old ++ replicate x 0) z ∙ append-nil (take a old) in
-    fill_start (zeros a old) b old a h (length_zeros a old a (omega arith) ∙ omega arith)
-    (sym (ap (λ (l : List ℕ). l ++ drop a old) e ∙ take-append-drop a old))
-
-zeros_suc : (a : ℕ) (old : List ℕ) (i : ℕ) → a ≤ i → zeros a old (suc i) ≡ zeros a old i ++ (0 ∷ [])
-zeros_suc a old i h =
-    let e : suc i - a ≡ i - a + 1 = omega arith in
-    rw (e, ← replicate-append-replicate {A = ℕ} (i - a) 1 0, append_assoc)
-
-pub zero_turn : {a b : ℕ} {old now : List ℕ} {i : ℕ} → a ≤ b → b ≤ length old → i < b → Filling (zeros a old) b old now i
-    → Filling (zeros a old) b old (set now i 0) (i + 1)
-zero_turn {a} {b} {old} {now} {i} h n l t =
-    fill_turn 0 n l (zeros_suc a old i (omega (arith, t.given, length_zeros a old i (omega arith)))) t
-
 zeroed_filled : (a b : ℕ) (l : List ℕ) → zeroed a b l ≡ filled (zeros a l b) b l
 unfolding zeroed
 zeroed_filled a b l = sym (append_assoc (take a l) (replicate (b - a) 0) (drop b l))
 
-pub zero_end : (a : ℕ) {b : ℕ} {old now : List ℕ} {i : ℕ} → b ≤ i → Filling (zeros a old) b old now i → now ≡ zeroed a b old
-zero_end a {b} {old} h t = fill_end h t ∙ sym (zeroed_filled a b old)
+-- what std's `fill` leaves
+pub zeroed_fill : (a b : ℕ) (l : List ℕ) {part : List ℕ} → a ≤ b → b ≤ length l
+    → (((y : ℕ) → y ≡ 0 → y ≡ 0) → part ≡ replicate (length (take (b - a) (drop a l))) 0)
+    → put_mid a (b - a) l part ≡ zeroed a b l
+unfolding zeroed
+zeroed_fill a b l h n f =
+    let k : length (take (b - a) (drop a l)) ≡ b - a = length-take-le (b - a) (drop a l) (omega (arith, length-drop a l)) in
+    let e : a + (b - a) ≡ b = omega arith in
+    rw (f (λ y z. z), k, drop-drop (b - a) a l, e)
+
+pub zeroed_front : (b : ℕ) (l : List ℕ) {part : List ℕ} → b ≤ length l → (((y : ℕ) → y ≡ 0 → y ≡ 0) → part ≡ replicate (length (take b l)) 0)
+    → part ++ drop b l ≡ zeroed 0 b l
+unfolding zeroed
+zeroed_front b l n f =
+    let e : b - 0 ≡ b = omega arith in
+    rw (f (λ y z. z), length-take-le b l n, e)
 
 -- ---- what stands in cells so written
 

@@ -8,7 +8,7 @@ use native.Mathlib.Numerals.{add-one}
 use native.Mathlib.Omega.{arith}
 use lib.Bits.{bit_xor}
 use lib.ListN.{length, get_or, take, drop, set, length-set, length-append}
-use lib.Seq.{take-suc-set, drop-set-lt, get_or-set_same, length-take-le, take_all, take_at}
+use lib.Seq.{take-suc-set, drop-set-lt, get_or-set_same, get_or-take, length-take-le, take_all, take_at}
 use Rattle.sets.specs.Sets.{Set, Empty, flip, members}
 use Rattle.sets.specs.Words.{TopDigit, digit, held, flip_bit}
 use Rattle.sets.proofs.Laws.{below_out}
@@ -71,24 +71,29 @@ module _ {m k : ℕ} {top₀ blocks₀ top blocks : List ℕ} {count i block : �
         go (no h) = held_zero blocks i q (t.in_hand (omega arith) ∙ z) (omega arith)
 
     -- blocks that are 0 are passed over, down to the first n
-    module _ (n : ℕ) (f : n ≤ i) (o : Zeros n i blocks) where
+    module _ (n : ℕ) (o : (n ≤ length (take i blocks)) × Zeros n (length (take i blocks)) (take i blocks)) where
+      long : length (take i blocks) ≡ i
+      long = length-take-le i blocks (omega (arith, t.ends, t.bit_length, r.blocks_in))
+
       clear_down : Empty (held blocks) (64 * n) (64 * k)
       clear_down q a b = go (dec_le (64 * i) q)
         where
           go : Dec (64 * i ≤ q) → held blocks q ≡ false
           go (yes h) = clear_more q h b
-          go (no h) = held_zero blocks (q / 64) q (o (q / 64) (omega arith) (omega arith)) (omega arith)
+          go (no h) =
+              let e : get_or (take i blocks) (q / 64) 0 ≡ get_or blocks (q / 64) 0 = get_or-take i blocks (q / 64) 0 (omega arith) in
+              held_zero blocks (q / 64) q (sym e ∙ o.1 (q / 64) (omega arith) (omega (arith, long))) (omega arith)
 
       -- the next one is read
       pub down : 0 < n → Turn m k top₀ blocks₀ top blocks count (n - 1) (get_or blocks (n - 1) 0)
       down h =
           record {
             few = t.few;
-            ends = omega (arith, t.ends);
+            ends = omega (arith, t.ends, long, o.0);
             edge = t.edge;
             lifting = t.lifting;
             in_hand = λ l. refl;
-            is_read = λ l. omega (arith, t.ends);
+            is_read = λ l. omega (arith, t.ends, long, o.0);
             clear = λ q a b. clear_down q (omega arith) b;
             top_rest = t.top_rest;
             bit_rest = t.bit_rest;

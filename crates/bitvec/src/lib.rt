@@ -10,14 +10,11 @@ ghost use Rattle.sets.specs.Words.{held, block_at, flip_bit, flip_bits};
 ghost use Rattle.sets.specs.Configurations.{blocks_for};
 ghost use Rattle.sets.specs.Filter.{filled};
 ghost use Rattle.sets.specs.Row.{bytes_of, numbers, spare_byte, bit_part};
-ghost use Rattle.bitvec.specs.Cells.{zeroed, xored, Gathered, Zeros};
+ghost use Rattle.std.specs.List.{FoldsTo};
+ghost use Rattle.bitvec.specs.Cells.{xored, Zeros};
 ghost use Rattle.bitvec.specs.Parts.{Room, Lifted, SplitOf, Folded};
 
-#[derive(Clone, Copy)]
-pub enum NextBucket {
-    At(usize),
-    Nothing,
-}
+use std::ops::BitOr;
 
 // A filter's record without its configuration.
 #[derive(Clone, Copy)]
@@ -45,30 +42,26 @@ pub fn toggle(blocks: &mut [u64], bucket: usize)
     blocks[i] = blocks[i] ^ buckets::into_block(bit);
 }
 
-// The first n buckets listed, one after the other.
-pub fn toggle_all(blocks: &mut [u64], list: &[u32], n: usize)
-    requires { (n ≤ length list.now) × Below (64 * length blocks.old) (take n list.now) }
-    ensures { blocks.new ≡ flip_bits blocks.old (take n list.now) }
+// The buckets listed, one after the other.
+pub fn toggle_all(blocks: &mut [u64], list: &[u32])
+    requires { Below (64 * length blocks.old) list.now }
+    ensures { blocks.new ≡ flip_bits blocks.old list.now }
 {
-    let mut i = 0;
-    while i < n {
-        toggle(blocks, buckets::into_usize(list[i]));
-        i += 1;
+    for &bucket in list {
+        toggle(blocks, buckets::into_usize(bucket));
     }
 }
 
 // ---- a range of blocks
 
-// How many buckets the blocks from a up to b hold.
-pub fn count_ones(blocks: &[u64], a: usize, b: usize) -> usize
-    requires { (a ≤ b) × (b ≤ length blocks.now) × (64 * b ≤ 2 ^ 32) }
-    ensures { result ≡ length (members (onward (64 * a) (held blocks.now)) (64 * b)) }
+// How many buckets the blocks hold.
+pub fn count_ones(blocks: &[u64]) -> usize
+    requires { 64 * length blocks.now ≤ 2 ^ 32 }
+    ensures { result ≡ length (members (held blocks.now) (64 * length blocks.now)) }
 {
     let mut total: usize = 0;
-    let mut i = a;
-    while i < b {
-        total += ones_of(blocks[i]);
-        i += 1;
+    for &block in blocks {
+        total += ones_of(block);
     }
     total
 }
@@ -79,82 +72,40 @@ pub fn ones_of(block: u64) -> usize
     u64::count_ones(block) as usize
 }
 
-// The blocks from a up to b, joined: 0 exactly where each is 0.
-pub fn or_blocks(blocks: &[u64], a: usize, b: usize) -> u64
-    requires { (a ≤ b) × (b ≤ length blocks.now) }
-    ensures { Gathered a b blocks.now result }
+// Cells joined, one after the other: of numbers, 0 exactly where each is (proofs/Gathering: gathered). No early way out, so that many
+// are joined at once.
+pub fn or<T: Copy + Default + BitOr<T, Output = T>>(cells: &[T]) -> T
+    requires { (x y : T) → T.can_bitor x y }
+    ensures { (none : T) × T.is_default none × FoldsTo T.bitor_gives none cells.now result }
 {
-    let mut all: u64 = 0;
-    let mut i = a;
-    while i < b {
-        all = all | blocks[i];
-        i += 1;
+    let mut all = T::default();
+    for cell in cells {
+        all = all | *cell;
     }
     all
 }
 
-// The top cells from a up to b, joined likewise.
-pub fn or_cells(top: &[u32], a: usize, b: usize) -> u32
-    requires { (a ≤ b) × (b ≤ length top.now) }
-    ensures { Gathered a b top.now result }
+// A loop, and not std's `copy_from_slice`, which calls `memmove`: the archive for C calls `memcpy` and `memset` alone.
+pub fn copy(to: &mut [u64], source: &[u64])
+    requires { length source.now ≡ length to.old }
+    ensures { to.new ≡ source.now }
 {
-    let mut all: u32 = 0;
-    let mut i = a;
-    while i < b {
-        all = all | top[i];
-        i += 1;
-    }
-    all
-}
-
-// Zeros from the block a up to the block b.
-pub fn zero_blocks(blocks: &mut [u64], a: usize, b: usize)
-    requires { (a ≤ b) × (b ≤ length blocks.old) }
-    ensures { blocks.new ≡ zeroed a b blocks.old }
-{
-    let mut i = a;
-    while i < b {
-        blocks[i] = 0;
-        i += 1;
-    }
-}
-
-// Zeros from the top cell a up to the cell b.
-pub fn zero_cells(top: &mut [u32], a: usize, b: usize)
-    requires { (a ≤ b) × (b ≤ length top.old) }
-    ensures { top.new ≡ zeroed a b top.old }
-{
-    let mut i = a;
-    while i < b {
-        top[i] = 0;
-        i += 1;
-    }
-}
-
-pub fn copy(to: &mut [u64], source: &[u64], k: usize)
-    requires { (k ≤ length to.old) × (k ≤ length source.now) }
-    ensures { to.new ≡ filled (take k source.now) k to.old }
-{
-    let mut i = 0;
-    while i < k {
+    for i in 0..to.len() {
         to[i] = source[i];
-        i += 1;
     }
 }
 
-// The symmetric difference of two, in the first k blocks of a third.
-pub fn xor(to: &mut [u64], first: &[u64], second: &[u64], k: usize)
-    requires { (k ≤ length to.old) × (k ≤ length first.now) × (k ≤ length second.now) }
-    ensures { to.new ≡ filled (xored k first.now second.now) k to.old }
+// The symmetric difference of two, in a third of as many blocks; by index, since a place of all three is meant.
+pub fn xor(to: &mut [u64], first: &[u64], second: &[u64])
+    requires { (length first.now ≡ length to.old) × (length second.now ≡ length to.old) }
+    ensures { to.new ≡ xored (length to.old) first.now second.now }
 {
-    let mut i = 0;
-    while i < k {
+    for i in 0..to.len() {
         to[i] = first[i] ^ second[i];
-        i += 1;
     }
 }
 
-// Clears every bucket at and above the boundary, in the first k blocks.
+// Clears every bucket at and above the boundary, in the first k blocks; those past them stay, which the promise says of the whole slice.
 pub fn resize(blocks: &mut [u64], boundary: usize, k: usize)
     requires { (boundary ≤ 64 * k) × (k ≤ length blocks.old) }
     ensures { blocks.new ≡
@@ -166,7 +117,7 @@ pub fn resize(blocks: &mut [u64], boundary: usize, k: usize)
         blocks[whole] = blocks[whole] & buckets::into_mask(bit);
         whole += 1;
     }
-    zero_blocks(blocks, whole, k);
+    blocks[whole..k].fill(0);
 }
 
 // ---- the bit part of a row
@@ -176,7 +127,7 @@ pub fn num_blocks(boundary: usize) -> usize
     requires { boundary ≤ 2 ^ 32 }
     ensures { result ≡ blocks_for boundary }
 {
-    (boundary + 63) / 64
+    boundary.div_ceil(64)
 }
 
 // The spare byte of a boundary above 0.
@@ -187,15 +138,13 @@ pub fn unoccupied_bits(boundary: usize) -> u8
     (63 - (boundary - 1) % 64) as u8
 }
 
-// The first n blocks, in bytes.
-fn write_blocks(to: &mut [u8], at: usize, blocks: &[u64], n: usize)
-    requires { (n ≤ length blocks.now) × (at + 8 * n ≤ length to.old) }
-    ensures { to.new ≡ sets to.old at (bytes_of 8 (take n blocks.now)) }
+// The blocks, in bytes.
+fn write_blocks(to: &mut [u8], at: usize, blocks: &[u64])
+    requires { at + 8 * length blocks.now ≤ length to.old }
+    ensures { to.new ≡ sets to.old at (bytes_of 8 blocks.now) }
 {
-    let mut i = 0;
-    while i < n {
-        unaligned::write_u64(to, at + 8 * i, blocks[i]);
-        i += 1;
+    for (i, block) in blocks.iter().enumerate() {
+        unaligned::write::<8>(to, at + 8 * i, *block);
     }
 }
 
@@ -212,19 +161,18 @@ pub fn write(to: &mut [u8], at: usize, blocks: &[u64], boundary: usize) -> usize
     }
     let n = num_blocks(boundary);
     to[at] = unoccupied_bits(boundary);
-    write_blocks(to, at + 1, blocks, n);
+    write_blocks(to, at + 1, &blocks[..n]);
     at + 1 + 8 * n
 }
 
-// The n blocks whose bytes begin at a place: what `write` wrote there, behind the spare byte.
+// The n blocks whose bytes begin at a place: what `write` wrote there, behind the spare byte. By index, and with n beside the slices: a
+// place in `blocks` and one eight times as far in `from` are meant, as in `count_ones_in_bytes`.
 pub fn from_bytes(blocks: &mut [u64], from: &[u8], at: usize, n: usize)
     requires { (n ≤ length blocks.old) × (8 * n ≤ length from.now - at) }
     ensures { blocks.new ≡ filled (numbers 8 n (drop at from.now)) n blocks.old }
 {
-    let mut i = 0;
-    while i < n {
-        blocks[i] = unaligned::read_u64(from, at + 8 * i);
-        i += 1;
+    for i in 0..n {
+        blocks[i] = unaligned::read::<8>(from, at + 8 * i);
     }
 }
 
@@ -234,41 +182,36 @@ pub fn count_ones_in_bytes(from: &[u8], at: usize, n: usize) -> usize
     ensures { result ≡ length (members (held (numbers 8 n (drop at from.now))) (64 * n)) }
 {
     let mut total: usize = 0;
-    let mut i = 0;
-    while i < n {
-        total += ones_of(unaligned::read_u64(from, at + 8 * i));
-        i += 1;
+    for i in 0..n {
+        total += ones_of(unaligned::read::<8>(from, at + 8 * i));
     }
     total
 }
 
 // ---- between blocks and a filter's areas
 
-// Flips the top entries into the blocks: these then hold the whole set.
+// Flips the top entries into the blocks: these then hold the whole set. Its promise speaks of the filter in the areas, so it takes the
+// whole top area, and k, how many blocks there are.
 pub fn fold(top: &[u32], count: usize, blocks: &mut [u64], k: usize)
     requires { (count ≤ length top.now) × (k ≤ length blocks.old) × Below (64 * k) (take count top.now) }
     ensures { Folded k top.now count blocks.old blocks.new }
 {
-    toggle_all(blocks, top, count);
+    toggle_all(blocks, &top[..count]);
 }
 
-// How many of the first n blocks there are up to the last that holds a bucket.
-fn occupied(blocks: &[u64], n: usize) -> usize
-    requires { n ≤ length blocks.now }
-    ensures { (result ≤ n) × Zeros result n blocks.now }
+// How many blocks there are up to the last that holds a bucket.
+fn occupied(blocks: &[u64]) -> usize
+    ensures { (result ≤ length blocks.now) × Zeros result (length blocks.now) blocks.now }
 {
-    let mut i = n;
-    while 0 < i {
-        let last = i - 1;
-        if blocks[last] != 0 {
-            return i;
-        }
-        i = last;
-    }
-    0
+    blocks
+        .iter()
+        .rposition(|block| *block != 0)
+        .map_or(0, |last| last + 1)
 }
 
-// Takes the largest buckets out of the first n blocks into the top cells, m at most, and says how many.
+// Takes the largest buckets out of the first n blocks into the top cells, m at most, and says how many. No index is counted: a turn takes
+// a bucket, or passes on to the next block that holds one.
+// `Room` stays a clause: document 01 lends the two areas apart.
 pub fn lift(top: &mut [u32], blocks: &mut [u64], m: usize, n: usize) -> usize
     requires { Room m n top.old blocks.old }
     ensures { Lifted m n top.old blocks.old top.new blocks.new result }
@@ -279,7 +222,7 @@ pub fn lift(top: &mut [u32], blocks: &mut [u64], m: usize, n: usize) -> usize
     let mut block: u64 = 0;
     while count < m {
         if block == 0 {
-            i = occupied(blocks, i);
+            i = occupied(&blocks[..i]);
             if i == 0 {
                 return count;
             }
@@ -298,6 +241,7 @@ pub fn lift(top: &mut [u32], blocks: &mut [u64], m: usize, n: usize) -> usize
 
 // The filter of the set that the first k blocks hold, in its two areas: at most m of the largest buckets go to the top cells. No
 // bucket stands at or above the block n.
+// `Room` stays a clause: document 01 lends the two areas apart.
 pub fn split(top: &mut [u32], blocks: &mut [u64], m: usize, k: usize, n: usize) -> Tally
     requires room { Room m k top.old blocks.old }
     requires n_le_k { (n ≤ k) × Empty (held blocks.old) (64 * n) (64 * k) }
@@ -305,7 +249,7 @@ pub fn split(top: &mut [u32], blocks: &mut [u64], m: usize, k: usize, n: usize) 
         result.count result.boundary }
 {
     let count = lift(top, blocks, m, n);
-    zero_cells(top, count, m);
+    top[count..m].fill(0);
     let last = m - 1;
     let boundary = buckets::into_usize(top[last]);
     Tally { count, boundary }

@@ -54,5 +54,5 @@ pub fn from_block_msb(block: u64) -> usize
     requires { 0 < block }
     ensures { TopDigit block result }
 {
-    63 - u64::leading_zeros(block) as usize
+    block.ilog2() as usize
 }

@@ -6,23 +6,23 @@ use lib.ListN.{length, drop}
 use Rattle.sets.specs.Sets.{Agree}
 use Rattle.sets.specs.Configurations.{W, blocks}
 use Rattle.sets.specs.Refusals.{Verdict, taken, refused}
-use Rattle.diff_count.specs.declared.Made.{Made}
 use Rattle.diff_count.proofs.Theorems.{makes_once}
 use Rattle.builder.specs.Calls.{News, PushOutcome, Pushes, Finishes, config_of, push_verdict, raised, set_of}
 use Rattle.builder.specs.declared.Builder.{Builder}
-use Rattle.builder.specs.declared.Built.{Built}
-use Rattle.builder.specs.declared.Built.TheVariants.{Next}
+use Rattle.sizes.specs.declared.Refusal.{Refusal}
+use Rattle.diff_count.specs.declared.Filter.{Filter}
+use Rattle.std.specs.Prelude.{Result, Ok}
 
-pub new_once : {n split : ℕ} {pending bits : List ℕ} {r r' : Built} {p p' q q' : List ℕ} → News n split pending bits r p q
+pub new_once : {n split : ℕ} {pending bits : List ℕ} {r r' : Result Builder Refusal} {p p' q q' : List ℕ} → News n split pending bits r p q
     → News n split pending bits r' p' q'
     → (r ≡ r') × (p ≡ p') × (q ≡ q')
 new_once x y = (x.answers ∙ sym y.answers, x.cells ∙ sym y.cells, x.blocks ∙ sym y.blocks)
 
-pub raise_once : (b : Builder) (pending bits : List ℕ) (split : ℕ) {r r' : Built} → r ≡ raised b pending bits split
+pub raise_once : (b : Builder) (pending bits : List ℕ) (split : ℕ) {r r' : Result Builder Refusal} → r ≡ raised b pending bits split
     → r' ≡ raised b pending bits split → r ≡ r'
 raise_once b pending bits split x y = x ∙ sym y
 
-pub finish_once : (b : Builder) (pending bits top blocks : List ℕ) {r r' : Made} {t t' q q' : List ℕ}
+pub finish_once : (b : Builder) (pending bits top blocks : List ℕ) {r r' : Result Filter Refusal} {t t' q q' : List ℕ}
     → Finishes b pending bits top blocks r t q → Finishes b pending bits top blocks r' t' q' → (r ≡ r') × (t ≡ t') × (q ≡ q')
 finish_once b pending bits top blocks x y = makes_once x y
 
@@ -38,11 +38,11 @@ pub record SameSet (b x : Builder) (p q : List ℕ) (y : Builder) (p' q' : List 
   pub bit_length : length q ≡ length q'
 
 -- a refusal leaves nothing open
-abbrev pub Alike : Verdict → Builder → Built → List ℕ → List ℕ → Built → List ℕ → List ℕ → Type 0
-Alike taken b r p q r' p' q' = (x : Builder) × (y : Builder) × (r ≡ Next x) × (r' ≡ Next y) × SameSet b x p q y p' q'
+abbrev pub Alike : Verdict → Builder → Result Builder Refusal → List ℕ → List ℕ → Result Builder Refusal → List ℕ → List ℕ → Type 0
+Alike taken b r p q r' p' q' = (x : Builder) × (y : Builder) × (r ≡ Ok x) × (r' ≡ Ok y) × SameSet b x p q y p' q'
 Alike (refused k) b r p q r' p' q' = (r ≡ r') × (p ≡ p') × (q ≡ q')
 
-pub push_once : (b : Builder) (pending bits list : List ℕ) (r r' : Built) (p p' q q' : List ℕ) → Pushes b pending bits list r p q
+pub push_once : (b : Builder) (pending bits list : List ℕ) (r r' : Result Builder Refusal) (p p' q q' : List ℕ) → Pushes b pending bits list r p q
     → Pushes b pending bits list r' p' q'
     → Alike (push_verdict b pending bits list) b r p q r' p' q'
 push_once b pending bits list r r' p p' q q' x y = go (push_verdict b pending bits list) x y

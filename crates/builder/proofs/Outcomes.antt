@@ -18,18 +18,17 @@ use Rattle.sets.proofs.Configurations.{entry_width, line_at, whole_blocks}
 use Rattle.sets.proofs.Tests.{all_below_lem}
 use Rattle.sets.proofs.Verdicts.{after_taken, after_refused}
 use Rattle.sets.proofs.Words.{shl_one}
+use Rattle.sizes.proofs.Laws.{handed_on}
 use Rattle.sizes.specs.Sizes.{sizes_at, refusal}
 use Rattle.sizes.specs.declared.Sizes.{Sizes}
 use Rattle.sizes.specs.declared.Refusal.{Refusal}
-use Rattle.sizes.specs.declared.SizesAnswer.{SizesAnswer}
-use Rattle.sizes.specs.declared.SizesAnswer.TheVariants as sizes
+use Rattle.diff_count.specs.declared.Filter.{Filter}
 use Rattle.bitvec.specs.Cells.{zeroed}
 use Rattle.bitvec.specs.Parts.{Becomes, Room}
 use Rattle.judge.proofs.Verdicts.{takes, refuses}
 use Rattle.pending.specs.Stages.{Staged, Moves, Stays}
 use Rattle.pending.specs.declared.Stage.{Stage}
 use Rattle.diff_count.proofs.Outcomes.{makes_refused, makes_ready}
-use Rattle.diff_count.specs.declared.Made.TheVariants as made
 use Rattle.judge_builder.specs.Judging.{areas_of, builder_of, target_of}
 use Rattle.pending.proofs.Sound.{staged_sound}
 use Rattle.judge_builder.proofs.Verdicts.{Passes, areas_told, areas_refused, areas_pass, builder_told, builder_refused, builder_pass}
@@ -37,7 +36,7 @@ use Rattle.judge_builder.proofs.Verdicts.{target_told, target_refused, target_pa
 use Rattle.builder.specs.Calls.{News, Pushed, PushOutcome, Pushes, Finishes, builder_in, config_of, finish_verdict, new_verdict}
 use Rattle.builder.specs.Calls.{push_verdict, raise_verdict, raised, record_in, set_of, stage_of}
 use Rattle.builder.specs.declared.Builder.{Builder}
-use Rattle.builder.specs.declared.Built.TheVariants.{Next, Refused}
+use Rattle.std.specs.Prelude.{Result, Ok, Err, IsErrAnd}
 
 -- ---- the last test, 2
 
@@ -65,18 +64,20 @@ zeroed_cleared n l =
     ap (λ (x : ℕ). filled (replicate x 0) n l) e
 
 module _ (n split : ℕ) (pending bits : List ℕ) where
-  new_not : (x : Refusal) (k : Cause) → new_verdict n split pending bits ≡ refused k → x ≡ refusal k
-      → News n split pending bits (Refused x) pending bits
-  new_not x k e q = record { answers = rw e (ap (λ (y : Refusal). Refused y) q); cells = rw e; blocks = rw e }
+  new_not : (x : Refusal) (k : Cause) {r : Result Builder Refusal} → r ≡ Err x → new_verdict n split pending bits ≡ refused k
+      → x ≡ refusal k
+      → News n split pending bits r pending bits
+  new_not x k h e q = record { answers = h ∙ rw e (ap (λ (y : Refusal). Err y) q); cells = rw e; blocks = rw e }
 
-  pub new_refused : (x : Refusal) → areas_of n (length pending) (length bits) ≡ sizes.Refused x
-      → News n split pending bits (Refused x) pending bits
+  pub new_refused : (x : Refusal) {r : Result Builder Refusal} → IsErrAnd r (λ y. y ≡ x)
+      → areas_of n (length pending) (length bits) ≡ Err x
+      → News n split pending bits r pending bits
   unfolding new_verdict
-  new_refused x q =
+  new_refused x h q =
       let a = areas_refused n (length pending) (length bits) x q in
-      new_not x a.0 (after_refused (builder_areas n (length pending) (length bits)) (is_split (config_at n) split ∷ []) a.1) a.2
+      new_not x a.0 (handed_on _ h) (after_refused (builder_areas n (length pending) (length bits)) (is_split (config_at n) split ∷ []) a.1) a.2
 
-  module _ (s : Sizes) (q : areas_of n (length pending) (length bits) ≡ sizes.Known s) where
+  module _ (s : Sizes) (q : areas_of n (length pending) (length bits) ≡ Ok s) where
     sized : (verdict (builder_areas n (length pending) (length bits)) ≡ taken) × (s ≡ sizes_at n)
     sized = areas_told n (length pending) (length bits) s q
 
@@ -86,14 +87,14 @@ module _ (n split : ℕ) (pending bits : List ℕ) where
         subst (λ (x : Sizes). (2 * x.top ≤ length pending) × (x.blocks ≤ length bits)) (sym sized.1)
         ((areas_pass n (length pending) (length bits) sized.0).1, (areas_pass n (length pending) (length bits) sized.0).2)
 
-    pub new_past : s.buckets < split → News n split pending bits (Refused (refusal (because range))) pending bits
+    pub new_past : s.buckets < split → News n split pending bits (Err (refusal (because range))) pending bits
     unfolding new_verdict
     new_past h =
-        new_not (refusal (because range)) (because range) (by_range (builder_areas n (length pending) (length bits)) sized.0 (split_past n s sized.1 split h)) refl
+        new_not (refusal (because range)) (because range) refl (by_range (builder_areas n (length pending) (length bits)) sized.0 (split_past n s sized.1 split h)) refl
 
     pub new_next : {pending' bits' : List ℕ} → split ≤ s.buckets → pending' ≡ zeroed 0 (2 * s.top) pending
         → bits' ≡ zeroed 0 s.blocks bits
-        → News n split pending bits (Next (builder_in n split 0)) pending' bits'
+        → News n split pending bits (Ok (builder_in n split 0)) pending' bits'
     unfolding new_verdict sizes_at
     new_next h x y =
         let t : new_verdict n split pending bits ≡ taken =
@@ -118,63 +119,65 @@ unfolding sizes_at
 level_at n = shl_one (config_at n).B (level_small n)
 
 module _ (b : Builder) (pending bits : List ℕ) where
-  abbrev asked : SizesAnswer
+  abbrev asked : Result Sizes Refusal
   asked = builder_of b.config (stage_of b) pending bits
 
   abbrev lent : List Test
   lent = builder_lent (record_in b) pending bits
 
-  told : (s : Sizes) → asked ≡ sizes.Known s → (verdict lent ≡ taken) × (s ≡ sizes_at b.config)
+  told : (s : Sizes) → asked ≡ Ok s → (verdict lent ≡ taken) × (s ≡ sizes_at b.config)
   told s q = builder_told b.config (stage_of b) pending bits s q
 
   -- raise
   module _ (split : ℕ) where
-    pub raise_refused : (x : Refusal) → asked ≡ sizes.Refused x → Refused x ≡ raised b pending bits split
+    pub raise_refused : (x : Refusal) → asked ≡ Err x → Err x ≡ raised b pending bits split
     unfolding raise_verdict raised
     raise_refused x q =
         let a = builder_refused b.config (stage_of b) pending bits x q in
-        refuses (λ y. Refused y) (Next (builder_in b.config (max b.split split) b.count))
+        refuses (λ y. Err y) (Ok (builder_in b.config (max b.split split) b.count))
         (a.0, after_refused lent (is_split (config_of b) split ∷ []) a.1, a.2)
 
-    module _ (s : Sizes) (q : asked ≡ sizes.Known s) where
-      pub raise_past : s.buckets < split → Refused (refusal (because range)) ≡ raised b pending bits split
+    module _ (s : Sizes) (q : asked ≡ Ok s) where
+      pub raise_past : s.buckets < split → Err (refusal (because range)) ≡ raised b pending bits split
       unfolding raise_verdict raised
       raise_past h =
-          refuses (λ y. Refused y) (Next (builder_in b.config (max b.split split) b.count))
+          refuses (λ y. Err y) (Ok (builder_in b.config (max b.split split) b.count))
           (because range, by_range lent (told s q).0 (split_past b.config s (told s q).1 split h), refl)
 
       pub raise_next : (to : ℕ) → split ≤ s.buckets → to ≡ max b.split split
-          → Next (builder_in b.config to b.count) ≡ raised b pending bits split
+          → Ok (builder_in b.config to b.count) ≡ raised b pending bits split
       unfolding raise_verdict raised
       raise_next to h e =
-          takes (λ y. Refused y) (Next (builder_in b.config (max b.split split) b.count))
+          takes (λ y. Err y) (Ok (builder_in b.config (max b.split split) b.count))
           (by_range lent (told s q).0 (split_fits b.config s (told s q).1 split h))
-          (ap (λ (x : ℕ). Next (builder_in b.config x b.count)) e)
+          (ap (λ (x : ℕ). Ok (builder_in b.config x b.count)) e)
 
   -- push
   module _ (list : List ℕ) where
-    push_not : (x : Refusal) (k : Cause) → push_verdict b pending bits list ≡ refused k → x ≡ refusal k
-        → Pushes b pending bits list (Refused x) pending bits
-    push_not x k e q =
-        subst (λ (v : Verdict). PushOutcome v b pending bits list (Refused x) pending bits) (sym e)
-        (ap (λ (y : Refusal). Refused y) q, refl, refl)
+    push_not : (x : Refusal) (k : Cause) (r : Result Builder Refusal) → r ≡ Err x → push_verdict b pending bits list ≡ refused k
+        → x ≡ refusal k
+        → Pushes b pending bits list r pending bits
+    push_not x k r h e q =
+        subst (λ (v : Verdict). PushOutcome v b pending bits list r pending bits) (sym e)
+        (h ∙ ap (λ (y : Refusal). Err y) q, refl, refl)
 
-    pub push_refused : (x : Refusal) → asked ≡ sizes.Refused x → Pushes b pending bits list (Refused x) pending bits
+    pub push_refused : (x : Refusal) (r : Result Builder Refusal) → IsErrAnd r (λ y. y ≡ x) → asked ≡ Err x
+        → Pushes b pending bits list r pending bits
     unfolding push_verdict
-    push_refused x q =
+    push_refused x r h q =
         let a = builder_refused b.config (stage_of b) pending bits x q in
-        push_not x a.0 (after_refused lent (are_buckets (config_of b) list ∷ []) a.1) a.2
+        push_not x a.0 r (handed_on r h) (after_refused lent (are_buckets (config_of b) list ∷ []) a.1) a.2
 
-    module _ (s : Sizes) (q : asked ≡ sizes.Known s) where
+    module _ (s : Sizes) (q : asked ≡ Ok s) where
       passes : Passes b.config (stage_of b) pending bits
       passes = builder_pass b.config (stage_of b) pending bits (told s q).0
 
       by_list : {v : Bool} → v ≡ all_below s.buckets list → all_below (W (config_of b)) list ≡ v
       by_list h = ap (λ (w : ℕ). all_below w list) (buckets_told b.config s (told s q).1) ∙ sym h
 
-      pub push_past : false ≡ all_below s.buckets list → Pushes b pending bits list (Refused (refusal (because range))) pending bits
+      pub push_past : false ≡ all_below s.buckets list → Pushes b pending bits list (Err (refusal (because range))) pending bits
       unfolding push_verdict
-      push_past h = push_not (refusal (because range)) (because range) (by_range lent (told s q).0 (by_list h)) refl
+      push_past h = push_not (refusal (because range)) (because range) _ refl (by_range lent (told s q).0 (by_list h)) refl
 
       pub level_fits : s.level < 64
       unfolding sizes_at
@@ -225,14 +228,14 @@ module _ (b : Builder) (pending bits : List ℕ) where
 
       pub push_next : {pending' bits' : List ℕ} {r : Stage} → true ≡ all_below s.buckets list
           → Moves s.top s.blocks (shifted s) list pending bits (stage_of b) pending' bits' r × Stays s.top list (stage_of b) r
-          → Pushes b pending bits list (Next (builder_in b.config r.split r.count)) pending' bits'
+          → Pushes b pending bits list (Ok (builder_in b.config r.split r.count)) pending' bits'
       unfolding push_verdict sizes_at
       push_next {pending'} {bits'} {r} h M =
           let n : ℕ = b.config in
           let N = subst (λ (x : Sizes). Moves x.top x.blocks (shifted x) list pending bits (stage_of b) pending' bits' r
           × Stays x.top list (stage_of b) r) (told s q).1 M in
           let next : Builder = builder_in n r.split r.count in
-          subst (λ (v : Verdict). PushOutcome v b pending bits list (Next next) pending' bits')
+          subst (λ (v : Verdict). PushOutcome v b pending bits list (Ok next) pending' bits')
           (sym (by_range lent (told s q).0 (by_list h))) (
             next,
             refl,
@@ -245,16 +248,17 @@ module _ (b : Builder) (pending bits : List ℕ) where
 -- ---- finish
 
 module _ (b : Builder) (pending bits to to_bits : List ℕ) where
-  abbrev answered : SizesAnswer
+  abbrev answered : Result Sizes Refusal
   answered = target_of b.config (stage_of b) pending bits (length to) (length to_bits)
 
-  pub finish_refused : (x : Refusal) → answered ≡ sizes.Refused x → Finishes b pending bits to to_bits (made.Refused x) to to_bits
+  pub finish_refused : (x : Refusal) {r : Result Filter Refusal} → IsErrAnd r (λ y. y ≡ x) → answered ≡ Err x
+      → Finishes b pending bits to to_bits r to to_bits
   unfolding finish_verdict
-  finish_refused x q =
+  finish_refused x h q =
       let a = target_refused b.config (stage_of b) pending bits (length to) (length to_bits) x q in
-      makes_refused (finish_verdict b pending bits to to_bits) (config_of b) (set_of b pending bits) to to_bits x a.0 a.1 a.2
+      makes_refused (finish_verdict b pending bits to to_bits) (config_of b) (set_of b pending bits) to to_bits x a.0 (handed_on _ h) a.1 a.2
 
-  module _ (s : Sizes) (q : answered ≡ sizes.Known s) where
+  module _ (s : Sizes) (q : answered ≡ Ok s) where
     aimed : (verdict (builder_lent (record_in b) pending bits ++ hold_areas (config_of b) (length to) (length to_bits)) ≡ taken)
         × (s ≡ sizes_at b.config)
     aimed = target_told b.config (stage_of b) pending bits (length to) (length to_bits) s q
@@ -277,7 +281,7 @@ module _ (b : Builder) (pending bits to to_bits : List ℕ) where
 
     pub finish_ready : {to' to_bits' : List ℕ} {count edge : ℕ}
         → Becomes s.top s.blocks (set_of b pending bits) to to_bits to' to_bits' count edge
-        → Finishes b pending bits to to_bits (made.Ready (record { config = b.config; count = count; boundary = edge })) to' to_bits'
+        → Finishes b pending bits to to_bits (Ok (record { config = b.config; count = count; boundary = edge })) to' to_bits'
     unfolding finish_verdict
     finish_ready B =
         makes_ready (finish_verdict b pending bits to to_bits) b.config (set_of b pending bits) to to_bits s aimed.0

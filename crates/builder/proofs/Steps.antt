@@ -17,13 +17,13 @@ use Rattle.sets.proofs.Words.{held_zero}
 use Rattle.bitvec.proofs.Filling.{filled_at, filled_rest}
 use Rattle.pending.specs.Stages.{stage_at}
 use Rattle.pending.proofs.Sound.{sound_staged, staged_sound}
-use Rattle.diff_count.specs.declared.Made.{Made}
 use Rattle.diff_count.proofs.Theorems.{InPlace, Lent, settled}
 use Rattle.builder.specs.Calls.{Finishes, News, Pushed, PushOutcome, Pushes, builder_in, finish_verdict, new_verdict, push_verdict}
 use Rattle.builder.specs.Calls.{raised, raise_verdict}
 use Rattle.builder.specs.declared.Builder.{Builder}
-use Rattle.builder.specs.declared.Built.{Built}
-use Rattle.builder.specs.declared.Built.TheVariants.{Next}
+use Rattle.sizes.specs.declared.Refusal.{Refusal}
+use Rattle.diff_count.specs.declared.Filter.{Filter}
+use Rattle.std.specs.Prelude.{Result, Ok}
 
 -- the slices are long enough for a builder's areas
 pub record Ample (n : ℕ) (pending bits : List ℕ) : Type 0 where
@@ -31,10 +31,10 @@ pub record Ample (n : ℕ) (pending bits : List ℕ) : Type 0 where
   pub blocks : blocks (config_at n) ≤ length bits
 
 -- the call was not refused, and a builder of S stands in the slices; p₀ and q₀ tell what stands past the areas
-pub record Carries (n : ℕ) (S : Set) (p₀ q₀ : List ℕ) (r : Built) (p q : List ℕ) : Type 0 where
+pub record Carries (n : ℕ) (S : Set) (p₀ q₀ : List ℕ) (r : Result Builder Refusal) (p q : List ℕ) : Type 0 where
   pub split : ℕ
   pub count : ℕ
-  pub answers : r ≡ Next (builder_in n split count)
+  pub answers : r ≡ Ok (builder_in n split count)
   pub sets : Agree (W (config_at n)) (builder_set p q count) S
   pub sound : is_builder (config_at n).M (W (config_at n)) p q count split ≡ true
   pub room : Ample n p q
@@ -78,7 +78,7 @@ module _ (n : ℕ) (k : known n ≡ true) where
   new_passes split p₀ q₀ l L = rw (k, le-leb _ _ L.cells, le-leb _ _ L.blocks, le-leb _ _ l)
 
   -- a new builder holds the empty set
-  pub new_step : (split : ℕ) (p₀ q₀ : List ℕ) {r : Built} {p q : List ℕ} → split ≤ W (config_at n) → Ample n p₀ q₀
+  pub new_step : (split : ℕ) (p₀ q₀ : List ℕ) {r : Result Builder Refusal} {p q : List ℕ} → split ≤ W (config_at n) → Ample n p₀ q₀
       → News n split p₀ q₀ r p q → Carries n none p₀ q₀ r p q
   new_step split p₀ q₀ {r} {p} {q} l L N =
       let c : Config = config_at n in
@@ -109,7 +109,7 @@ module _ (n : ℕ) (k : known n ≡ true) where
         bit_rest = ap (drop (blocks c)) y ∙ cleared_rest (blocks c) q₀;
       }
 
-  module _ (S : Set) (p₀ q₀ : List ℕ) {b : Builder} {p q : List ℕ} (C : Carries n S p₀ q₀ (Next b) p q) where
+  module _ (S : Set) (p₀ q₀ : List ℕ) {b : Builder} {p q : List ℕ} (C : Carries n S p₀ q₀ (Ok b) p q) where
     abbrev now : Builder
     now = builder_in n C.split C.count
 
@@ -121,7 +121,7 @@ module _ (n : ℕ) (k : known n ≡ true) where
     push_passes list w = rw (k, le-leb _ _ C.room.cells, le-leb _ _ C.room.blocks, C.sound, w)
 
     -- pushing flips the set by the buckets listed
-    pub push_step : (list : List ℕ) {r : Built} {p' q' : List ℕ} → all_below (W (config_at n)) list ≡ true
+    pub push_step : (list : List ℕ) {r : Result Builder Refusal} {p' q' : List ℕ} → all_below (W (config_at n)) list ≡ true
         → Pushes b p q list r p' q' → Carries n (flips list S) p₀ q₀ r p' q'
     push_step list {r} {p'} {q'} w P =
         let O : PushOutcome taken now p q list r p' q' =
@@ -132,7 +132,7 @@ module _ (n : ℕ) (k : known n ≡ true) where
         record {
           split = x.split;
           count = x.count;
-          answers = O.1 ∙ ap (λ (i : ℕ). Next (builder_in i x.split x.count)) D.config_is;
+          answers = O.1 ∙ ap (λ (i : ℕ). Ok (builder_in i x.split x.count)) D.config_is;
           sets = λ j l. D.sets j l ∙ flips_agree list (builder_set p q C.count) S j (C.sets j l);
           sound = D.sound;
           room = record { cells = omega (arith, D.pending_length, C.room.cells); blocks = omega (arith, D.bit_length, C.room.blocks) };
@@ -141,7 +141,7 @@ module _ (n : ℕ) (k : known n ≡ true) where
         }
 
     -- raising the split changes nothing of the set
-    pub raise_step : (s : ℕ) {r : Built} → s ≤ W (config_at n) → r ≡ raised b p q s → Carries n S p₀ q₀ r p q
+    pub raise_step : (s : ℕ) {r : Result Builder Refusal} → s ≤ W (config_at n) → r ≡ raised b p q s → Carries n S p₀ q₀ r p q
     unfolding raised raise_verdict
     raise_step s l e =
         let v : raise_verdict now p q s ≡ taken =
@@ -158,7 +158,7 @@ module _ (n : ℕ) (k : known n ≡ true) where
         }
 
     -- finishing writes the filter of the set
-    pub finish_step : (to to_bits : List ℕ) {r : Made} {t b' : List ℕ} → Lent n to to_bits → Finishes b p q to to_bits r t b'
+    pub finish_step : (to to_bits : List ℕ) {r : Result Filter Refusal} {t b' : List ℕ} → Lent n to to_bits → Finishes b p q to to_bits r t b'
         → InPlace n S to to_bits r t b'
     unfolding finish_verdict
     finish_step to to_bits {r} {t} {b'} L F =

@@ -1,5 +1,5 @@
 -- The calls on a builder: what each judges, answers and leaves.
-use Rattle.std.specs.Prelude.{◌≡◌, true, List, [], ◌∷◌, ◌++◌, ℕ, ◌+◌, ◌*◌, ◌^◌, ◌≤◌, max, length, drop}
+use Rattle.std.specs.Prelude.{◌≡◌, true, List, [], ◌∷◌, ◌++◌, ℕ, ◌+◌, ◌*◌, ◌^◌, ◌≤◌, max, length, drop, Result, Ok, Err}
 use Rattle.sets.specs.Sets.{Set, Agree, flips}
 use Rattle.sets.specs.Configurations.{Config, W, blocks, config_at}
 use Rattle.sets.specs.Filter.{BuilderRecord, Rises, at_or_above, builder_set, cleared, is_builder}
@@ -9,10 +9,9 @@ use Rattle.pending.specs.Stages.{stage_at}
 use Rattle.pending.specs.declared.Stage.{Stage}
 use Rattle.judge_builder.specs.Judging.{record_at}
 use Rattle.diff_count.specs.Making.{Makes}
-use Rattle.diff_count.specs.declared.Made.{Made}
 use Rattle.builder.specs.declared.Builder.{Builder}
-use Rattle.builder.specs.declared.Built.{Built}
-use Rattle.builder.specs.declared.Built.TheVariants.{Next, Refused}
+use Rattle.sizes.specs.declared.Refusal.{Refusal}
+use Rattle.diff_count.specs.declared.Filter.{Filter}
 
 abbrev pub builder_in : ℕ → ℕ → ℕ → Builder
 builder_in n split count = record { config = n; split = split; count = count }
@@ -38,8 +37,8 @@ unfoldable pub new_verdict : ℕ → ℕ → List ℕ → List ℕ → Verdict
 new_verdict n split pending bits = verdict (builder_areas n (length pending) (length bits) ++ (is_split (config_at n) split ∷ []))
 
 -- 01: "Making the empty filter, or a builder, zeroes its areas."
-pub record News (n split : ℕ) (pending bits : List ℕ) (r : Built) (pending' bits' : List ℕ) : Type 0 where
-  pub answers : r ≡ answer (new_verdict n split pending bits) (λ k. Refused (refusal k)) (Next (builder_in n split 0))
+pub record News (n split : ℕ) (pending bits : List ℕ) (r : Result Builder Refusal) (pending' bits' : List ℕ) : Type 0 where
+  pub answers : r ≡ answer (new_verdict n split pending bits) (λ k. Err (refusal k)) (Ok (builder_in n split 0))
   pub cells : pending' ≡ answer (new_verdict n split pending bits) (λ k. pending) (cleared (2 * (config_at n).M) pending)
   pub blocks : bits' ≡ answer (new_verdict n split pending bits) (λ k. bits) (cleared (blocks (config_at n)) bits)
 
@@ -67,11 +66,11 @@ pub record Pushed (b : Builder) (pending bits list : List ℕ) (next : Builder) 
   pub pending_length : length pending' ≡ length pending
   pub bit_length : length bits' ≡ length bits
 
-abbrev pub PushOutcome : Verdict → Builder → List ℕ → List ℕ → List ℕ → Built → List ℕ → List ℕ → Type 0
-PushOutcome taken b pending bits list r pending' bits' = (next : Builder) × (r ≡ Next next) × Pushed b pending bits list next pending' bits'
-PushOutcome (refused k) b pending bits list r pending' bits' = (r ≡ Refused (refusal k)) × (pending' ≡ pending) × (bits' ≡ bits)
+abbrev pub PushOutcome : Verdict → Builder → List ℕ → List ℕ → List ℕ → Result Builder Refusal → List ℕ → List ℕ → Type 0
+PushOutcome taken b pending bits list r pending' bits' = (next : Builder) × (r ≡ Ok next) × Pushed b pending bits list next pending' bits'
+PushOutcome (refused k) b pending bits list r pending' bits' = (r ≡ Err (refusal k)) × (pending' ≡ pending) × (bits' ≡ bits)
 
-abbrev pub Pushes : Builder → List ℕ → List ℕ → List ℕ → Built → List ℕ → List ℕ → Type 0
+abbrev pub Pushes : Builder → List ℕ → List ℕ → List ℕ → Result Builder Refusal → List ℕ → List ℕ → Type 0
 Pushes b pending bits list = PushOutcome (push_verdict b pending bits list) b pending bits list
 
 -- ---- raise
@@ -80,9 +79,9 @@ unfoldable pub raise_verdict : Builder → List ℕ → List ℕ → ℕ → Ver
 raise_verdict b pending bits split = verdict (builder_lent (record_in b) pending bits ++ (is_split (config_of b) split ∷ []))
 
 -- 01: "The split may be raised by hand; a value no higher than the present one changes nothing."
-unfoldable pub raised : Builder → List ℕ → List ℕ → ℕ → Built
+unfoldable pub raised : Builder → List ℕ → List ℕ → ℕ → Result Builder Refusal
 raised b pending bits split =
-    answer (raise_verdict b pending bits split) (λ k. Refused (refusal k)) (Next (builder_in b.config (max b.split split) b.count))
+    answer (raise_verdict b pending bits split) (λ k. Err (refusal k)) (Ok (builder_in b.config (max b.split split) b.count))
 
 -- ---- finish
 
@@ -91,5 +90,5 @@ finish_verdict b pending bits top blocks =
     verdict (builder_lent (record_in b) pending bits ++ hold_areas (config_of b) (length top) (length blocks))
 
 -- 01: "Finishing writes a filter and leaves the builder as found."
-abbrev pub Finishes : Builder → List ℕ → List ℕ → List ℕ → List ℕ → Made → List ℕ → List ℕ → Type 0
+abbrev pub Finishes : Builder → List ℕ → List ℕ → List ℕ → List ℕ → Result Filter Refusal → List ℕ → List ℕ → Type 0
 Finishes b pending bits top blocks = Makes (finish_verdict b pending bits top blocks) (config_of b) (set_of b pending bits) top blocks

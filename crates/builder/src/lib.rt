@@ -1,16 +1,16 @@
 // The builder: a record by value beside two lent areas, for many buckets at once (diff_count.rs).
 #![tactic(auto)]
 
-ghost use Rattle.std.specs.Prelude.{◌≡◌, ◌*◌, ◌≤◌, length, take};
-ghost use Rattle.sets.specs.Sets.{Below};
-ghost use Rattle.sets.specs.Filter.{builder_set};
+ghost use Rattle.std.specs.Prelude.{◌≡◌, ◌*◌, ◌≤◌, length};
+ghost use Rattle.sets.specs.Sets.{Below, flips};
+ghost use Rattle.sets.specs.Words.{held};
 ghost use Rattle.bitvec.specs.Parts.{Becomes, Room};
-ghost use Rattle.builder.specs.Calls.{News, Pushes, raised, Finishes};
+ghost use Rattle.builder.specs.Calls.{News, Pushes, raised, Finishes, stage_of};
 
 use bitvec::Tally;
-use diff_count::{Filter, Made};
+use diff_count::Filter;
 use pending::Stage;
-use sizes::{Refusal, SizesAnswer};
+use sizes::Refusal;
 
 #[derive(Clone, Copy)]
 pub struct Builder {
@@ -20,17 +20,21 @@ pub struct Builder {
     pub count: usize,
 }
 
-// The next record; or why there is none.
-#[derive(Clone, Copy)]
-pub enum Built {
-    Next(Builder),
-    Refused(Refusal),
+impl From<Builder> for Stage {
+    ghost from_gives = { λ b stage. stage ≡ stage_of b };
+
+    fn from(b: Builder) -> Stage {
+        Stage {
+            split: b.split,
+            count: b.count,
+        }
+    }
 }
 
-// The filter of the builder's set, in its two areas.
+// The filter of a builder's set, in its two areas: of its pending buckets, and of the first k blocks of its bits.
+// `Room` stays a clause: document 01 lends the two areas apart.
 fn write_filter(
     pending: &[u32],
-    count: usize,
     bits: &[u64],
     top: &mut [u32],
     blocks: &mut [u64],
@@ -38,126 +42,95 @@ fn write_filter(
     k: usize,
 ) -> Tally
     requires room { Room m k top.old blocks.old }
-    requires k_in_bounds { (k ≤ length bits.now) × (count ≤ length pending.now) × Below (64 * k) (take count pending.now) }
-    ensures { Becomes m k (builder_set pending.now bits.now count)
+    requires k_in_bounds { (k ≤ length bits.now) × Below (64 * k) pending.now }
+    ensures { Becomes m k (flips pending.now (held bits.now))
         top.old blocks.old top.new blocks.new result.count result.boundary }
 {
-    bitvec::copy(blocks, bits, k);
-    bitvec::toggle_all(blocks, pending, count);
+    bitvec::copy(&mut blocks[..k], &bits[..k]);
+    bitvec::toggle_all(blocks, pending);
     bitvec::split(top, blocks, m, k, k)
 }
 
 // A builder of the empty set.
-pub fn new(config: u64, split: usize, pending: &mut [u32], bits: &mut [u64]) -> Built
+pub fn new(
+    config: u64,
+    split: usize,
+    pending: &mut [u32],
+    bits: &mut [u64],
+) -> Result<Builder, Refusal>
     ensures { News config split pending.old bits.old result pending.new bits.new }
 {
-    match judge_builder::areas(config, pending.len(), bits.len()) {
-        SizesAnswer::Known(s) => {
-            if s.buckets < split {
-                return Built::Refused(sizes::RANGE);
-            }
-            bitvec::zero_cells(pending, 0, 2 * s.top);
-            bitvec::zero_blocks(bits, 0, s.blocks);
-            Built::Next(Builder {
-                config,
-                split,
-                count: 0,
-            })
-        }
-        SizesAnswer::Refused(r) => Built::Refused(r),
+    let s = judge_builder::areas(config, pending.len(), bits.len())?;
+    if s.buckets < split {
+        return Err(Refusal::Range);
     }
+    pending[..2 * s.top].fill(0);
+    bits[..s.blocks].fill(0);
+    Ok(Builder {
+        config,
+        split,
+        count: 0,
+    })
 }
 
 impl Builder {
     // The membership of each bucket listed flips, once for each time that it is listed.
-    pub fn push(self, pending: &mut [u32], bits: &mut [u64], list: &[u32]) -> Built
+    pub fn push(
+        self,
+        pending: &mut [u32],
+        bits: &mut [u64],
+        list: &[u32],
+    ) -> Result<Builder, Refusal>
         ensures { Pushes self pending.old bits.old list.now
             result pending.new bits.new }
     {
-        let config = self.config;
-        let stage = Stage {
-            split: self.split,
-            count: self.count,
-        };
-        match judge_builder::builder(config, stage, pending, bits) {
-            SizesAnswer::Known(s) => {
-                if !judge::all_below(list, s.buckets) {
-                    return Built::Refused(sizes::RANGE);
-                }
-                let next = pending::push_all(
-                    pending,
-                    bits,
-                    stage,
-                    s.top,
-                    s.blocks,
-                    1 << s.level,
-                    list,
-                );
-                Built::Next(Builder {
-                    config,
-                    split: next.split,
-                    count: next.count,
-                })
-            }
-            SizesAnswer::Refused(r) => Built::Refused(r),
+        let stage = Stage::from(self);
+        let s = judge_builder::builder(self.config, stage, pending, bits)?;
+        if !judge::all_below(list, s.buckets) {
+            return Err(Refusal::Range);
         }
+        let next = pending::push_all(pending, bits, stage, s.top, s.blocks, 1 << s.level, list);
+        Ok(Builder {
+            split: next.split,
+            count: next.count,
+            ..self
+        })
     }
 
     // The split by hand; a value no higher than the present one changes nothing.
-    pub fn raise(self, pending: &[u32], bits: &[u64], to: usize) -> Built
+    pub fn raise(self, pending: &[u32], bits: &[u64], to: usize) -> Result<Builder, Refusal>
         ensures { result ≡ raised self pending.now bits.now to }
     {
-        let config = self.config;
-        let stage = Stage {
-            split: self.split,
-            count: self.count,
-        };
-        match judge_builder::builder(config, stage, pending, bits) {
-            SizesAnswer::Known(s) => {
-                if s.buckets < to {
-                    return Built::Refused(sizes::RANGE);
-                }
-                let mut higher = stage.split;
-                if higher < to {
-                    higher = to;
-                }
-                Built::Next(Builder {
-                    config,
-                    split: higher,
-                    count: stage.count,
-                })
-            }
-            SizesAnswer::Refused(r) => Built::Refused(r),
+        let s = judge_builder::builder(self.config, Stage::from(self), pending, bits)?;
+        if s.buckets < to {
+            return Err(Refusal::Range);
         }
+        Ok(Builder {
+            split: self.split.max(to),
+            ..self
+        })
     }
 
     // The filter of the builder's set, written to a filter's two areas, whatever these held.
-    pub fn finish(self, pending: &[u32], bits: &[u64], top: &mut [u32], blocks: &mut [u64]) -> Made
+    pub fn finish(
+        self,
+        pending: &[u32],
+        bits: &[u64],
+        top: &mut [u32],
+        blocks: &mut [u64],
+    ) -> Result<Filter, Refusal>
         ensures { Finishes self pending.now bits.now
             top.old blocks.old result top.new blocks.new }
     {
-        let config = self.config;
-        let stage = Stage {
-            split: self.split,
-            count: self.count,
-        };
-        match judge_builder::builder_and_target(
-            config,
-            stage,
+        let s = judge_builder::builder_and_target(
+            self.config,
+            Stage::from(self),
             pending,
             bits,
             top.len(),
             blocks.len(),
-        ) {
-            SizesAnswer::Known(s) => {
-                let made = write_filter(pending, stage.count, bits, top, blocks, s.top, s.blocks);
-                Made::Ready(Filter {
-                    config,
-                    count: made.count,
-                    boundary: made.boundary,
-                })
-            }
-            SizesAnswer::Refused(r) => Made::Refused(r),
-        }
+        )?;
+        let made = write_filter(&pending[..self.count], bits, top, blocks, s.top, s.blocks);
+        Ok(Filter::of(self.config, made))
     }
 }

@@ -5,7 +5,6 @@ ghost use Rattle.std.specs.Prelude.{IfSome, OnOk};
 ghost use Rattle.std.specs.Io.KnownBytes.{Appends};
 ghost use Rattle.sets.specs.Text.{compare_text};
 
-use compare_text::TextAnswer;
 use std::io;
 use std::io::{Read, Write};
 
@@ -18,10 +17,8 @@ fn answer<R: Read, W: Write>(input: &mut R, output: &mut W) -> io::Result<()>
     let mut text = [0u8; 40001];
     let n = examples::read_full(input, &mut text)?;
     let mut out = [0u8; 322];
-    if let TextAnswer::Written(m) = compare_text::compare_text(&text[..n], &mut out) {
-        output.write_all(&out[..m])?;
-    }
-    Ok(())
+    let m = compare_text::compare_text(&text[..n], &mut out).unwrap();
+    output.write_all(&out[..m])
 }
 
 fn main(rt: HostRuntime) -> io::Result<()> {

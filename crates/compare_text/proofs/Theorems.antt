@@ -10,34 +10,36 @@ use lib.Seq.{take_at}
 use Rattle.sets.specs.Sets.{Set, apart}
 use Rattle.sets.specs.Configurations.{Config, W, config_at}
 use Rattle.sets.specs.Filter.{exact_count_at, filled, limited_bound_at, limited_count_at}
-use Rattle.sets.specs.Masks.{Ordering, less, equal, greater, key_of, order_of}
+use Rattle.sets.specs.Masks.{key_of, order_of}
 use Rattle.sets.specs.Refusals.{Verdict, taken, refused, answer}
 use Rattle.sets.specs.Row.{shown_row}
 use Rattle.sets.specs.Text.{Cut, whole, cut, Judged, is, refused_at, Mask, and_then, at_line, compare_text, compared, config_line, cut_at, fields}
 use Rattle.sets.specs.Text.{judged_input, judged_masked, judged_rows, judged_second, largest_input, line, malformed, mask_line, newline}
 use Rattle.sets.specs.Text.{nothing_follows, order_word, overlap, printed, row_line, text, to_decimal, to_hex}
 use Rattle.sizes.specs.Sizes.{refusal}
-use Rattle.encode.proofs.Chains.{decimal_length}
+use Rattle.encode.proofs.Decimals.{decimal_length}
 use Rattle.compare_text.specs.Answers.{Compares, text_verdict}
-use Rattle.compare_text.specs.declared.TextAnswer.{TextAnswer}
-use Rattle.compare_text.specs.declared.TextAnswer.TheVariants as texts
 use Rattle.compare_text.proofs.Answering.{fits}
+use Rattle.sizes.specs.declared.Refusal.{Refusal}
+use Rattle.std.specs.Prelude.{Result, Ok, Err}
+use Rattle.std.specs.declared.cmp.Ordering.{Ordering}
+use Rattle.std.specs.declared.cmp.Ordering.TheVariants.{Less, Equal, Greater}
 
 -- ---- two outcomes that the promise allows coincide
 
-pub compares_once : (input out : List ℕ) {r r' : TextAnswer} {o o' : List ℕ} → Compares input out r o → Compares input out r' o'
+pub compares_once : (input out : List ℕ) {r r' : Result ℕ Refusal} {o o' : List ℕ} → Compares input out r o → Compares input out r' o'
     → (r ≡ r') × (o ≡ o')
 compares_once input out x y = (x.answers ∙ sym y.answers, x.bytes ∙ sym y.bytes)
 
 -- ---- the bytes that were written
 
-wrote : (v : Verdict) (x n : ℕ) → texts.Written n ≡ answer v (λ k. texts.Refused (refusal k)) (texts.Written x) → (v ≡ taken) × (n ≡ x)
+wrote : (v : Verdict) (x n : ℕ) → Ok n ≡ answer v (λ k. Err (refusal k)) (Ok x) → (v ≡ taken) × (n ≡ x)
 wrote taken x n e = (refl, (cc))
 wrote (refused k) x n e =
     let z : ◌≡◌ {A = ℕ} 0 1 = cc in
     absurd (omega arith)
 
-module _ {input out : List ℕ} {r : TextAnswer} {out' : List ℕ} {n : ℕ} (w : Compares input out r out') (e : r ≡ texts.Written n) where
+module _ {input out : List ℕ} {r : Result ℕ Refusal} {out' : List ℕ} {n : ℕ} (w : Compares input out r out') (e : r ≡ Ok n) where
   told : (text_verdict input out ≡ taken) × (n ≡ length (compare_text input))
   told = wrote (text_verdict input out) (length (compare_text input)) n (sym e ∙ w.answers)
 
@@ -72,9 +74,9 @@ line_short : (word ns : List ℕ) → Short (length word + (21 * length ns + 1))
 line_short word ns = record { short = omega (arith, length-append word (fields (map to_decimal ns)), (numbers_short ns).short) }
 
 order_short : (o : Ordering) → Short 14 (line "order" (order_word o ∷ []))
-order_short less = record { short = omega arith }
-order_short equal = record { short = omega arith }
-order_short greater = record { short = omega arith }
+order_short Less = record { short = omega arith }
+order_short Equal = record { short = omega arith }
+order_short Greater = record { short = omega arith }
 
 keys_short : (a b : ℕ) → Short 38 (line "key" (to_hex 16 a ∷ to_hex 16 b ∷ []))
 keys_short a b = record { short = omega arith }
@@ -139,6 +141,6 @@ longest input = (go (ltb largest_input (length input))).short
     go false = input_fits input
 
 -- A buffer of 322 bytes is long enough for every input.
-pub never_short : (input out : List ℕ) {r : TextAnswer} {out' : List ℕ} → 322 ≤ length out → Compares input out r out'
-    → r ≡ texts.Written (length (compare_text input))
+pub never_short : (input out : List ℕ) {r : Result ℕ Refusal} {out' : List ℕ} → 322 ≤ length out → Compares input out r out'
+    → r ≡ Ok (length (compare_text input))
 never_short input out h w = w.answers ∙ rw (fits input out (omega (arith, longest input)))

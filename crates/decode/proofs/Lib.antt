@@ -1,4 +1,3 @@
 pub mod Words
-pub mod Values
 pub mod Decimals
 pub mod Pairs

@@ -1,152 +1,89 @@
 // Text taken apart: lines, words, decimals and hex (01, "The comparing program").
 #![tactic(auto)]
 
-ghost use Rattle.std.specs.Prelude.{◌≡◌, ◌*◌, ◌≤◌, length};
+ghost use Rattle.std.specs.Prelude.{◌≡◌, ◌*◌, ◌<◌, ◌≤◌, IfSome, length};
 ghost use Rattle.sets.specs.Sets.{same};
 ghost use Rattle.sets.specs.Text.{all, decimal as Text·decimal, is_digit};
 ghost use Rattle.decode.specs.Parts.{Finds, Hexed, Starts, hex_value, number_in, spelled};
 
-// The first place where a byte stands.
-#[derive(Clone, Copy)]
-pub enum Found {
-    At(usize),
-    Nothing,
-}
-
-#[derive(Clone, Copy)]
-pub enum Number {
-    Is(u64),
-    Malformed,
-}
-
-// How many bytes were decoded.
-#[derive(Clone, Copy)]
-pub enum Hex {
-    Bytes(usize),
-    Malformed,
-}
-
 // ---- lines and words
 
-pub fn find(s: &[u8], mark: u8) -> Found
+// The first place where a byte stands.
+pub fn find(s: &[u8], mark: u8) -> Option<usize>
     ensures { Finds mark s.now result }
 {
-    let mut i = 0;
-    while i < s.len() {
-        if s[i] == mark {
-            return Found::At(i);
-        }
-        i += 1;
-    }
-    Found::Nothing
+    s.iter().position(|b| *b == mark)
 }
 
-// Whether a text begins with a word.
+// Whether a text begins with a word. One call of std, with the clause by which the program's lines are judged; `equals` likewise.
 pub fn starts_with(s: &[u8], word: &[u8]) -> bool
     ensures { Starts word.now s.now result }
 {
-    if s.len() < word.len() {
-        return false;
-    }
-    let mut i = 0;
-    while i < word.len() {
-        if s[i] != word[i] {
-            return false;
-        }
-        i += 1;
-    }
-    true
+    s.starts_with(word)
 }
 
 // Whether a text is that word and nothing more.
 pub fn equals(s: &[u8], word: &[u8]) -> bool
     ensures { result ≡ same s.now word.now }
 {
-    if s.len() != word.len() {
-        return false;
-    }
-    starts_with(s, word)
+    s == word
 }
 
 // ---- digits
 
-// What a hexadecimal digit stands for; 16 for a byte that is none.
-fn value(b: u8) -> u8
-    ensures { result ≡ hex_value b }
+// What a hexadecimal digit stands for.
+fn value(b: u8) -> Option<u8>
+    ensures is { result ≡ hex_value b }
+    ensures small { IfSome result (λ d. d < 16) }
 {
-    if b'0' <= b && b <= b'9' {
-        return b - b'0';
+    match b {
+        b'0'..=b'9' => Some(b - b'0'),
+        b'a'..=b'f' => Some(b - b'a' + 10),
+        _ => None,
     }
-    if b'a' <= b && b <= b'f' {
-        return b - b'a' + 10;
-    }
-    16
 }
 
 pub fn all_digits(s: &[u8]) -> bool
     ensures { result ≡ all is_digit s.now }
 {
-    let mut i = 0;
-    while i < s.len() {
-        if 9 < value(s[i]) {
-            return false;
-        }
-        i += 1;
-    }
-    true
+    s.iter().all(|b| b.is_ascii_digit())
 }
 
 // The number that digits spell, where it is below 2^64.
-fn digits(s: &[u8]) -> Number
+fn digits(s: &[u8]) -> Option<u64>
     ensures { result ≡ number_in (spelled s.now) }
 {
-    let mut number = 0;
-    let mut i = 0;
-    while i < s.len() {
-        let digit = value(s[i]) as u64;
-        if 9 < digit {
-            return Number::Malformed;
+    let mut number = 0u64;
+    for &b in s {
+        if !b.is_ascii_digit() {
+            return None;
         }
-        if (18446744073709551615 - digit) / 10 < number {
-            return Number::Malformed;
-        }
-        number = 10 * number + digit;
-        i += 1;
+        number = number.checked_mul(10)?.checked_add(u64::from(b - b'0'))?;
     }
-    Number::Is(number)
+    Some(number)
 }
 
 // A decimal below 2^64, with no sign and no leading zero but `0` itself.
-pub fn decimal(s: &[u8]) -> Number
+pub fn decimal(s: &[u8]) -> Option<u64>
     ensures { result ≡ number_in (Text·decimal s.now) }
 {
-    if s.len() == 0 {
-        return Number::Malformed;
+    match s {
+        [] | [b'0', _, ..] => None,
+        _ => digits(s),
     }
-    if s[0] == b'0' && s.len() != 1 {
-        return Number::Malformed;
-    }
-    digits(s)
 }
 
 // The bytes that pairs of hexadecimal digits spell, at the beginning of `to`.
-pub fn from_hex(s: &[u8], to: &mut [u8]) -> Hex
+pub fn from_hex(s: &[u8], to: &mut [u8]) -> Option<usize>
     requires { length s.now ≤ 2 * length to.old }
     ensures { Hexed s.now result to.new }
 {
     if s.len() % 2 != 0 {
-        return Hex::Malformed;
+        return None;
     }
-    let n = s.len() / 2;
-    let mut i = 0;
-    while i < n {
-        let high = value(s[2 * i]);
-        let low = value(s[2 * i + 1]);
-        if 15 < high || 15 < low {
-            return Hex::Malformed;
-        }
-        to[i] = 16 * high + low;
-        i += 1;
+    // By index: of cells that were lent by `iter_mut` the check does not know what stands in them afterwards.
+    for i in 0..s.len() / 2 {
+        to[i] = 16 * value(s[2 * i])? + value(s[2 * i + 1])?;
     }
-    Hex::Bytes(n)
+    Some(s.len() / 2)
 }

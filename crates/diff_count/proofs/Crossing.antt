@@ -5,14 +5,15 @@ use mathlib.Core.List.{List}
 use Prim.Native.Nat.{ℕ, ◌*◌, ◌/◌, ◌%◌, ◌^◌, ◌≤◌, ◌<◌, max}
 use native.Mathlib.Decide.{dec_lt}
 use native.Mathlib.Omega.{arith}
-use lib.ListN.{length, get_or, take, drop}
-use lib.Seq.{get_or-take}
+use lib.Bits.{bit_xor}
+use lib.ListN.{length, get_or, take, drop, length-append, length-drop}
+use lib.Seq.{get_or-take, length-take-le}
 use Rattle.sets.specs.Sets.{Agree, Below, Empty, Set, apart, differ, odd}
 use Rattle.sets.specs.Words.{digit, held, flip_bits}
 use Rattle.sets.specs.Configurations.{blocks_for}
 use Rattle.sets.specs.Filter.{Holds, filled}
 use Rattle.sets.proofs.Laws.{agree_empty, apart_empty, differ_assoc, differ_comm}
-use Rattle.sets.proofs.Lists.{length_tabulate}
+use Rattle.sets.proofs.Lists.{length_tabulate, tabulate_same}
 use Rattle.sets.proofs.Words.{digit_zero, length_flip_bits}
 use Rattle.sets.proofs.Filters.{flips_at, holds_below, holds_room_bits, holds_set}
 use Rattle.sets.proofs.Canon.{holds_canon}
@@ -52,27 +53,56 @@ module _ (n k : ℕ) (bits : List ℕ) (h : n ≤ k) (l : k ≤ length bits) whe
 
 module _ {k a b n : ℕ} {xs ys : List ℕ} (old : List ℕ) (X : BitsBelow k a xs) (Y : BitsBelow k b ys) (r : k ≤ length old)
     (e : n ≡ blocks_for (max a b)) where
-  pub bits_fit : (n ≤ length old) × (n ≤ length xs) × (n ≤ length ys)
-  bits_fit = (omega (arith, X.low, Y.low), omega (arith, X.low, Y.low, X.room), omega (arith, X.low, Y.low, Y.room))
+  pub bits_fit : n ≤ k
+  bits_fit = omega (arith, X.low, Y.low)
 
-  pub zeros_fit : (mid : List ℕ) → length mid ≡ length old → (n ≤ k) × (k ≤ length mid)
-  zeros_fit mid s = (omega (arith, X.low, Y.low), omega arith)
+  long : length (take n old) ≡ n
+  long = length-take-le n old (omega (arith, bits_fit))
 
-  pub bits_apart : {mid now : List ℕ} → length mid ≡ length old → mid ≡ filled (xored n xs ys) n old → now ≡ zeroed n k mid
-      → BitsApart k xs ys old now
-  bits_apart {mid} {now} s f g =
-      let z = zeros_fit mid s in
-      record {
-        bits = λ p h. ap (λ (l : List ℕ). held l p) g ∙ go p h (dec_lt p (64 * n));
-        rest = ap (drop k) g ∙ zeroed_rest n k mid z.0 z.1 ∙ later_rest n k mid old z.0 (ap (drop n) f ∙ xored_rest n xs ys old);
-      }
-    where
-      go : (p : ℕ) → p < 64 * k → Dec (p < 64 * n) → held (zeroed n k mid) p ≡ apart (held xs) (held ys) p
-      go p h (yes l) =
-          zeroed_low n k mid (zeros_fit mid s).0 (zeros_fit mid s).1 p l ∙ ap (λ (l : List ℕ). held l p) f ∙ xored_held n xs ys old p l
-      go p h (no l) =
-          zeroed_high n k mid (zeros_fit mid s).0 (zeros_fit mid s).1 p (omega arith) h
-          ∙ sym (ap₂ differ (X.clear p (omega arith) h) (Y.clear p (omega arith) h))
+  pub slices_fit : (length (take n xs) ≡ length (take n old)) × (length (take n ys) ≡ length (take n old))
+  slices_fit =
+      (length-take-le n xs (omega (arith, bits_fit, X.room)) ∙ sym long, length-take-le n ys (omega (arith, bits_fit, Y.room)) ∙ sym long)
+
+  -- what the first n blocks of each give are the first n of the two
+  xored_part : xored (length (take n old)) (take n xs) (take n ys) ≡ xored n xs ys
+  unfolding xored
+  xored_part =
+      ap (λ (i : ℕ). xored i (take n xs) (take n ys)) long
+      ∙ tabulate_same n _ _ 0 (λ i l. ap₂ bit_xor (get_or-take n xs i 0 l) (get_or-take n ys i 0 l))
+
+  module _ {part : List ℕ} (f : part ≡ xored (length (take n old)) (take n xs) (take n ys)) where
+    abbrev mid : List ℕ
+    mid = filled part n old
+
+    mid_is : mid ≡ filled (xored n xs ys) n old
+    mid_is = ap (λ (l : List ℕ). filled l n old) (f ∙ xored_part)
+
+    pub zeros_fit : k ≤ length mid
+    unfolding xored
+    zeros_fit =
+        omega (
+          arith,
+          bits_fit,
+          ap length mid_is,
+          length-append (xored n xs ys) (drop n old),
+          length_tabulate n (λ i. bit_xor (get_or xs i 0) (get_or ys i 0)),
+          length-drop n old,
+        )
+
+    pub bits_apart : {now : List ℕ} → now ≡ zeroed n k mid → BitsApart k xs ys old now
+    bits_apart {now} g =
+        record {
+          bits = λ p h. ap (λ (l : List ℕ). held l p) g ∙ go p h (dec_lt p (64 * n));
+          rest = ap (drop k) g ∙ zeroed_rest n k mid bits_fit zeros_fit
+              ∙ later_rest n k mid old bits_fit (ap (drop n) mid_is ∙ xored_rest n xs ys old);
+        }
+      where
+        go : (p : ℕ) → p < 64 * k → Dec (p < 64 * n) → held (zeroed n k mid) p ≡ apart (held xs) (held ys) p
+        go p h (yes l) =
+            zeroed_low n k mid bits_fit zeros_fit p l ∙ ap (λ (l : List ℕ). held l p) mid_is ∙ xored_held n xs ys old p l
+        go p h (no l) =
+            zeroed_high n k mid bits_fit zeros_fit p (omega arith) h
+            ∙ sym (ap₂ differ (X.clear p (omega arith) h) (Y.clear p (omega arith) h))
 
 bits_below : {m k : ℕ} {top bits : List ℕ} {count edge : ℕ} {S : Set} → 0 < m → Holds m k top bits count edge S → BitsBelow k edge bits
 bits_below {m} {k} {S = S} z H =

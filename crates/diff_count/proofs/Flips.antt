@@ -6,7 +6,7 @@ use Prim.Native.Nat.{ℕ, ◌-◌, ◌*◌, ◌^◌, ◌≤◌, ◌<◌}
 use native.Mathlib.Decide.{dec_lt}
 use native.Mathlib.Omega.{arith}
 use lib.ListN.{length, get_or, take, drop, length-take, get_or-eq_default}
-use lib.Seq.{get_or-take, take-length}
+use lib.Seq.{get_or-take}
 use Rattle.sets.specs.Sets.{Agree, Below, Empty, Set, differ, flips, members, odd}
 use Rattle.sets.specs.Words.{held, flip_bits}
 use Rattle.sets.specs.Filter.{Holds, boundary, shown}
@@ -41,8 +41,8 @@ module _ {m k : ℕ} {top bits : List ℕ} {count edge : ℕ} {S : Set} (H : Hol
   pub tops_led : 0 < m → (count ≤ length top) × Led (take count top)
   tops_led z = (count_fits H, λ i h. falls_order (take count top) (64 * k) 0 i (holds_canon z H).falling (omega arith) h)
 
-  pub tops_fit : (blocks : List ℕ) → k ≤ length blocks → (count ≤ length top) × Below (64 * length blocks) (take count top)
-  tops_fit blocks n = (count_fits H, λ i h. omega (arith, holds_below H i h))
+  pub tops_fit : (blocks : List ℕ) → k ≤ length blocks → Below (64 * length blocks) (take count top)
+  tops_fit blocks n i h = omega (arith, holds_below H i h)
 
 -- ---- buckets flipped in blocks
 
@@ -53,9 +53,6 @@ flipped_at k blocks bs blocks' n w e p =
 
 pub flipped_rest : (k : ℕ) (blocks bs blocks' : List ℕ) → Below (64 * k) bs → blocks' ≡ flip_bits blocks bs → drop k blocks' ≡ drop k blocks
 flipped_rest k blocks bs blocks' w e = ap (drop k) e ∙ drop_flip_bits k blocks bs w
-
-all_flipped : (blocks blocks' list : List ℕ) → blocks' ≡ flip_bits blocks (take (length list) list) → blocks' ≡ flip_bits blocks list
-all_flipped blocks blocks' list e = e ∙ ap (flip_bits blocks) (take-length list)
 
 -- the filter of the set that the blocks came to hold
 pub becomes : {m k : ℕ} {top₀ bits₁ top bits : List ℕ} {count edge : ℕ} (S : Set) (bits₀ : List ℕ) → Agree (64 * k) (held bits₁) S
@@ -75,43 +72,35 @@ module _ {m k : ℕ} {top₀ bits₀ : List ℕ} {count₀ edge₀ : ℕ} {S : S
   pub fold_fits : (count₀ ≤ length top₀) × (k ≤ length bits₀) × Below (64 * k) (take count₀ top₀)
   fold_fits = (count_fits H, room.blocks_in, holds_below H)
 
-  pub list_fits : (blocks : List ℕ) → length blocks ≡ length bits₀
-      → (length list ≤ length list) × Below (64 * length blocks) (take (length list) list)
-  list_fits blocks n = (omega arith, rw take-length (λ i h. omega (arith, w i h, room.blocks_in)))
+  pub list_fits : (blocks : List ℕ) → length blocks ≡ length bits₀ → Below (64 * length blocks) list
+  list_fits blocks n i h = omega (arith, w i h, room.blocks_in)
 
   module _ {bits₁ bits₂ : List ℕ} (n : length bits₁ ≡ length bits₀) (f : Folded k top₀ count₀ bits₀ bits₁)
-      (e : bits₂ ≡ flip_bits bits₁ (take (length list) list)) where
-    whole : bits₂ ≡ flip_bits bits₁ list
-    whole = all_flipped bits₁ bits₂ list e
-
+      (e : bits₂ ≡ flip_bits bits₁ list) where
     flipped : Agree (64 * k) (held bits₂) (flips list S)
     flipped p h =
-        flipped_at k bits₁ list bits₂ (omega (arith, room.blocks_in)) w whole p
+        flipped_at k bits₁ list bits₂ (omega (arith, room.blocks_in)) w e p
         ∙ ap (differ (odd list p)) (f.sets m edge₀ S room.some H p h)
         ∙ sym (flips_at list S p)
 
-    pub flip_ends : {n₀ n : ℕ} → UpTo (take count₀ top₀) 0 n₀ → UpTo (take (length list) list) n₀ n
+    pub flip_ends : {n₀ n : ℕ} → UpTo (take count₀ top₀) 0 n₀ → UpTo list n₀ n
         → (n ≤ k) × Empty (held bits₂) (64 * n) (64 * k)
     flip_ends {n₀} {n} u v =
-        let l : Below (64 * n) list = subst (Below (64 * n)) (take-length list) v.covers in
         let t : Below (64 * n) (take count₀ top₀) = λ i h. omega (arith, u.covers i h, v.low) in (
-          v.high k (u.high k (omega arith) (holds_below H)) (subst (Below (64 * k)) (sym (take-length list)) w),
+          v.high k (u.high k (omega arith) (holds_below H)) w,
           agree_empty (held bits₂) (flips list S) (64 * n) (64 * k) flipped
-              (flips_empty list S (64 * n) (64 * k) l (tops_empty H n room.some t)),
+              (flips_empty list S (64 * n) (64 * k) v.covers (tops_empty H n room.some t)),
         )
 
     pub flip_becomes : {top bits : List ℕ} {count edge : ℕ} → SplitOf m k top₀ bits₂ top bits count edge
         → Becomes m k (flips list S) top₀ bits₀ top bits count edge
-    flip_becomes s = becomes (flips list S) bits₀ flipped (flipped_rest k bits₁ list bits₂ w whole ∙ f.bit_rest) s
+    flip_becomes s = becomes (flips list S) bits₀ flipped (flipped_rest k bits₁ list bits₂ w e ∙ f.bit_rest) s
 
   -- where each bucket listed is below the edge, the top list stays
   module _ {bits : List ℕ} (u : Below edge₀ list) (fit : (i : ℕ) → get_or bits i 0 < 2 ^ 64)
-      (e : bits ≡ flip_bits bits₀ (take (length list) list)) where
-    whole_bits : bits ≡ flip_bits bits₀ list
-    whole_bits = all_flipped bits₀ bits list e
-
+      (e : bits ≡ flip_bits bits₀ list) where
     bits_at : (p : ℕ) → held bits p ≡ differ (odd list p) (held bits₀ p)
-    bits_at p = flipped_at k bits₀ list bits room.blocks_in w whole_bits p
+    bits_at p = flipped_at k bits₀ list bits room.blocks_in w e p
 
     stays : Holds m k top₀ bits count₀ edge₀ (shown top₀ bits count₀ edge₀)
     stays =
@@ -124,7 +113,7 @@ module _ {m k : ℕ} {top₀ bits₀ : List ℕ} {count₀ edge₀ : ℕ} {S : S
           edge_is = C.edge_is;
           clear = λ p a b. bits_at p ∙ ap₂ differ (odd_past list edge₀ p u a) (C.clear p a b);
         } in
-        canon_holds room.some room.cells D (omega (arith, room.blocks_in, ap length whole_bits ∙ length_flip_bits bits₀ list)) fit
+        canon_holds room.some room.cells D (omega (arith, room.blocks_in, ap length e ∙ length_flip_bits bits₀ list)) fit
 
     pub bits_become : Becomes m k (flips list S) top₀ bits₀ top₀ bits count₀ edge₀
     bits_become =
@@ -139,5 +128,5 @@ module _ {m k : ℕ} {top₀ bits₀ : List ℕ} {count₀ edge₀ : ℕ} {S : S
               ∙ sym (flips_at list S p))
               stays;
           top_rest = refl;
-          bit_rest = flipped_rest k bits₀ list bits w whole_bits;
+          bit_rest = flipped_rest k bits₀ list bits w e;
         }

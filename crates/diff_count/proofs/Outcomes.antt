@@ -17,11 +17,10 @@ use Rattle.sets.proofs.Laws.{members_none}
 use Rattle.sets.proofs.Tests.{all_below_lem}
 use Rattle.sets.proofs.Words.{word_none}
 use Rattle.sets.proofs.Verdicts.{after_taken, after_refused}
+use Rattle.sizes.proofs.Laws.{handed_on}
 use Rattle.sizes.specs.Sizes.{sizes_at, refusal}
 use Rattle.sizes.specs.declared.Sizes.{Sizes}
 use Rattle.sizes.specs.declared.Refusal.{Refusal}
-use Rattle.sizes.specs.declared.SizesAnswer.{SizesAnswer}
-use Rattle.sizes.specs.declared.SizesAnswer.TheVariants as sizes
 use Rattle.bitvec.specs.Cells.{zeroed}
 use Rattle.bitvec.specs.Parts.{Becomes, Room}
 use Rattle.bitvec.proofs.Filling.{zeroed_rest, zeroed_tabulate}
@@ -31,19 +30,20 @@ use Rattle.judge.proofs.Verdicts.{filter_pass, two_told, two_refused, two_pass}
 use Rattle.diff_count.specs.Making.{Makes, filter_in, record_in, tally_of}
 use Rattle.diff_count.specs.Calls.{Empties, Toggles, Differs, empty_verdict, toggle_verdict, difference_verdict, shown_by}
 use Rattle.diff_count.specs.declared.Filter.{Filter}
-use Rattle.diff_count.specs.declared.Made.TheVariants.{Ready, Refused}
+use Rattle.std.specs.Prelude.{Result, Ok, Err, IsErrAnd}
 
 -- ---- any call
 
 module _ (v : Verdict) (c : Config) (S : Set) (top bits : List ℕ) where
-  pub makes_refused : (x : Refusal) (k : Cause) → v ≡ refused k → x ≡ refusal k → Makes v c S top bits (Refused x) top bits
-  makes_refused x k e q = record { answers = rw e (ap (λ (y : Refusal). Refused y) q); tops = rw e; blocks = rw e }
+  pub makes_refused : (x : Refusal) (k : Cause) {r : Result Filter Refusal} → r ≡ Err x → v ≡ refused k → x ≡ refusal k
+      → Makes v c S top bits r top bits
+  makes_refused x k h e q = record { answers = h ∙ rw e (ap (λ (y : Refusal). Err y) q); tops = rw e; blocks = rw e }
 
 -- the filter of S was made
 pub makes_ready : (v : Verdict) (n : ℕ) (S : Set) (top bits : List ℕ) (s : Sizes) {top' bits' : List ℕ} {count edge : ℕ}
     → v ≡ taken → known n ≡ true → s ≡ sizes_at n
     → Becomes s.top s.blocks S top bits top' bits' count edge
-    → Makes v (config_at n) S top bits (Ready (record { config = n; count = count; boundary = edge })) top' bits'
+    → Makes v (config_at n) S top bits (Ok (record { config = n; count = count; boundary = edge })) top' bits'
 unfolding sizes_at
 makes_ready v n S top bits s {top'} {bits'} {count} {edge} t a e B₀ =
     let c : Config = config_at n in
@@ -51,7 +51,7 @@ makes_ready v n S top bits s {top'} {bits'} {count} {edge} t a e B₀ =
     let r : FilterRecord = record { config = n; count = count; boundary = edge } in
     let H : Stands c r top' bits' S = holds_stands c (line_at n).sound (sym (number_at n a)) B.holds in
     record {
-      answers = rw t (ap (λ (x : FilterRecord). Ready (filter_in x)) H.record_is);
+      answers = rw t (ap (λ (x : FilterRecord). Ok (filter_in x)) H.record_is);
       tops = rw t (sym (take-append-drop c.M top') ∙ ap₂ (λ (x y : List ℕ). x ++ y) H.top_is B.top_rest);
       blocks = rw t (sym (take-append-drop (blocks c) bits') ∙ ap₂ (λ (x y : List ℕ). x ++ y) H.bits_are B.bit_rest);
     }
@@ -86,15 +86,17 @@ zeros_none m k top bits h l =
         go false = refl
 
 module _ (n : ℕ) (top bits : List ℕ) where
-  pub empty_refused : (x : Refusal) → areas_of n (length top) (length bits) ≡ sizes.Refused x → Empties n top bits (Refused x) top bits
+  pub empty_refused : (x : Refusal) {r : Result Filter Refusal} → IsErrAnd r (λ y. y ≡ x)
+      → areas_of n (length top) (length bits) ≡ Err x
+      → Empties n top bits r top bits
   unfolding empty_verdict
-  empty_refused x q =
+  empty_refused x h q =
       let a = areas_refused n (length top) (length bits) x q in
-      makes_refused (empty_verdict n top bits) (config_at n) none top bits x a.0 a.1 a.2
+      makes_refused (empty_verdict n top bits) (config_at n) none top bits x a.0 (handed_on _ h) a.1 a.2
 
-  module _ (s : Sizes) (q : areas_of n (length top) (length bits) ≡ sizes.Known s) where
+  module _ (s : Sizes) (q : areas_of n (length top) (length bits) ≡ Ok s) where
     pub empty_ready : {top' bits' : List ℕ} → top' ≡ zeroed 0 s.top top → bits' ≡ zeroed 0 s.blocks bits
-        → Empties n top bits (Ready (record { config = n; count = 0; boundary = 0 })) top' bits'
+        → Empties n top bits (Ok (record { config = n; count = 0; boundary = 0 })) top' bits'
     unfolding empty_verdict
     empty_ready {top'} {bits'} x y =
         let a = areas_told n (length top) (length bits) s q in
@@ -105,15 +107,16 @@ module _ (n : ℕ) (top bits : List ℕ) where
 -- ---- toggle
 
 module _ (f : Filter) (top bits list : List ℕ) where
-  pub toggle_refused : (x : Refusal) → filter_of f.config (tally_of f) top bits ≡ sizes.Refused x
-      → Toggles f top bits list (Refused x) top bits
+  pub toggle_refused : (x : Refusal) {r : Result Filter Refusal} → IsErrAnd r (λ y. y ≡ x)
+      → filter_of f.config (tally_of f) top bits ≡ Err x
+      → Toggles f top bits list r top bits
   unfolding toggle_verdict
-  toggle_refused x q =
+  toggle_refused x h q =
       let a = filter_refused f.config (tally_of f) top bits x q in
-      makes_refused (toggle_verdict f top bits list) (config_at f.config) (flips list (shown_by f top bits)) top bits x a.0
+      makes_refused (toggle_verdict f top bits list) (config_at f.config) (flips list (shown_by f top bits)) top bits x a.0 (handed_on _ h)
       (after_refused (filter_lent (record_in f) top bits) (are_buckets (config_at f.config) list ∷ []) a.1) a.2
 
-  module _ (s : Sizes) (q : filter_of f.config (tally_of f) top bits ≡ sizes.Known s) where
+  module _ (s : Sizes) (q : filter_of f.config (tally_of f) top bits ≡ Ok s) where
     told : (verdict (filter_lent (record_in f) top bits) ≡ taken) × (s ≡ sizes_at f.config)
     told = filter_told f.config (tally_of f) top bits s q
 
@@ -127,10 +130,10 @@ module _ (f : Filter) (top bits list : List ℕ) where
         after_taken (filter_lent (record_in f) top bits) (are_buckets (config_at f.config) list ∷ []) told.0
         ∙ ap (λ (b : Bool). cond b taken (refused (because range))) (ap (λ (x : Sizes). all_below x.buckets list) (sym told.1) ∙ sym h)
 
-    pub toggle_past : false ≡ all_below s.buckets list → Toggles f top bits list (Refused (refusal (because range))) top bits
+    pub toggle_past : false ≡ all_below s.buckets list → Toggles f top bits list (Err (refusal (because range))) top bits
     toggle_past h =
         makes_refused (toggle_verdict f top bits list) (config_at f.config) (flips list (shown_by f top bits)) top bits
-        (refusal (because range)) (because range) (by_list false h) refl
+        (refusal (because range)) (because range) refl (by_list false h) refl
 
     pub toggle_asks : true ≡ all_below s.buckets list
         → Room s.top s.blocks top bits
@@ -153,7 +156,7 @@ module _ (f : Filter) (top bits list : List ℕ) where
 
     pub toggle_ready : {top' bits' : List ℕ} {count edge : ℕ} → true ≡ all_below s.buckets list
         → Becomes s.top s.blocks (flips list (shown_by f top bits)) top bits top' bits' count edge
-        → Toggles f top bits list (Ready (record { config = f.config; count = count; boundary = edge })) top' bits'
+        → Toggles f top bits list (Ok (record { config = f.config; count = count; boundary = edge })) top' bits'
     toggle_ready h B =
         makes_ready (toggle_verdict f top bits list) f.config (flips list (shown_by f top bits)) top bits s (by_list true h)
         passes.known told.1 B
@@ -161,19 +164,20 @@ module _ (f : Filter) (top bits list : List ℕ) where
 -- ---- symmetric_difference
 
 module _ (f : Filter) (top bits : List ℕ) (g : Filter) (top2 bits2 to to_bits : List ℕ) where
-  abbrev answered : SizesAnswer
+  abbrev answered : Result Sizes Refusal
   answered = two_of f.config (tally_of f) top bits g.config (tally_of g) top2 bits2 (length to) (length to_bits)
 
   abbrev D : Set
   D = apart (shown_by f top bits) (shown_by g top2 bits2)
 
-  pub difference_refused : (x : Refusal) → answered ≡ sizes.Refused x → Differs f top bits g top2 bits2 to to_bits (Refused x) to to_bits
+  pub difference_refused : (x : Refusal) {r : Result Filter Refusal} → IsErrAnd r (λ y. y ≡ x) → answered ≡ Err x
+      → Differs f top bits g top2 bits2 to to_bits r to to_bits
   unfolding difference_verdict
-  difference_refused x q =
+  difference_refused x h q =
       let a = two_refused f.config (tally_of f) top bits g.config (tally_of g) top2 bits2 (length to) (length to_bits) x q in
-      makes_refused (difference_verdict f top bits g top2 bits2 to to_bits) (config_at f.config) D to to_bits x a.0 a.1 a.2
+      makes_refused (difference_verdict f top bits g top2 bits2 to to_bits) (config_at f.config) D to to_bits x a.0 (handed_on _ h) a.1 a.2
 
-  module _ (s : Sizes) (q : answered ≡ sizes.Known s) where
+  module _ (s : Sizes) (q : answered ≡ Ok s) where
     pub difference_asks : Room s.top s.blocks to to_bits
         × ((is_filter s.top s.blocks top bits f.count f.boundary ≡ true)
         × (is_filter s.top s.blocks top2 bits2 g.count g.boundary ≡ true))
@@ -188,7 +192,7 @@ module _ (f : Filter) (top bits : List ℕ) (g : Filter) (top2 bits2 to to_bits 
         (room_of f.config to to_bits p.1, (p.2.sound, p.3.sound))
 
     pub difference_ready : {to' to_bits' : List ℕ} {count edge : ℕ} → Becomes s.top s.blocks D to to_bits to' to_bits' count edge
-        → Differs f top bits g top2 bits2 to to_bits (Ready (record { config = f.config; count = count; boundary = edge })) to' to_bits'
+        → Differs f top bits g top2 bits2 to to_bits (Ok (record { config = f.config; count = count; boundary = edge })) to' to_bits'
     unfolding difference_verdict
     difference_ready B =
         let a = two_told f.config (tally_of f) top bits g.config (tally_of g) top2 bits2 (length to) (length to_bits) s q in

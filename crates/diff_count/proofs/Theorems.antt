@@ -18,33 +18,33 @@ use Rattle.judge.proofs.Passing.{all_taken, lent_taken, stands_pass}
 use Rattle.diff_count.specs.Making.{Makes, filter_in, record_in}
 use Rattle.diff_count.specs.Calls.{Empties, Toggles, Differs, empty_verdict, toggle_verdict, difference_verdict, shown_by}
 use Rattle.diff_count.specs.declared.Filter.{Filter}
-use Rattle.diff_count.specs.declared.Made.{Made}
-use Rattle.diff_count.specs.declared.Made.TheVariants.{Ready}
+use Rattle.sizes.specs.declared.Refusal.{Refusal}
+use Rattle.std.specs.Prelude.{Result, Ok}
 
 -- ---- two outcomes that a promise allows coincide
 
-pub makes_once : {v : Verdict} {c : Config} {S : Set} {top bits : List ℕ} {r r' : Made} {t t' b b' : List ℕ}
+pub makes_once : {v : Verdict} {c : Config} {S : Set} {top bits : List ℕ} {r r' : Result Filter Refusal} {t t' b b' : List ℕ}
     → Makes v c S top bits r t b → Makes v c S top bits r' t' b'
     → (r ≡ r') × (t ≡ t') × (b ≡ b')
 makes_once x y = (x.answers ∙ sym y.answers, x.tops ∙ sym y.tops, x.blocks ∙ sym y.blocks)
 
-pub empty_once : (n : ℕ) (top bits : List ℕ) {r r' : Made} {t t' b b' : List ℕ} → Empties n top bits r t b
+pub empty_once : (n : ℕ) (top bits : List ℕ) {r r' : Result Filter Refusal} {t t' b b' : List ℕ} → Empties n top bits r t b
     → Empties n top bits r' t' b' → (r ≡ r') × (t ≡ t') × (b ≡ b')
 empty_once n top bits x y = makes_once x y
 
-pub toggle_once : (f : Filter) (top bits list : List ℕ) {r r' : Made} {t t' b b' : List ℕ} → Toggles f top bits list r t b
+pub toggle_once : (f : Filter) (top bits list : List ℕ) {r r' : Result Filter Refusal} {t t' b b' : List ℕ} → Toggles f top bits list r t b
     → Toggles f top bits list r' t' b'
     → (r ≡ r') × (t ≡ t') × (b ≡ b')
 toggle_once f top bits list x y = makes_once x y
 
-pub difference_once : (f : Filter) (top bits : List ℕ) (g : Filter) (top2 bits2 to to_bits : List ℕ) {r r' : Made} {t t' b b' : List ℕ}
+pub difference_once : (f : Filter) (top bits : List ℕ) (g : Filter) (top2 bits2 to to_bits : List ℕ) {r r' : Result Filter Refusal} {t t' b b' : List ℕ}
     → Differs f top bits g top2 bits2 to to_bits r t b → Differs f top bits g top2 bits2 to to_bits r' t' b' → (r ≡ r') × (t ≡ t') × (b ≡ b')
 difference_once f top bits g top2 bits2 to to_bits x y = makes_once x y
 
 -- ---- calls on the filters of sets
 
 -- the call was not refused, and record and slices are those of S; t₀ and b₀ tell what stands past the areas
-abbrev pub InPlace : ℕ → Set → List ℕ → List ℕ → Made → List ℕ → List ℕ → Type 0
+abbrev pub InPlace : ℕ → Set → List ℕ → List ℕ → Result Filter Refusal → List ℕ → List ℕ → Type 0
 InPlace n S t₀ b₀ r t b = Makes taken (config_at n) S t₀ b₀ r t b
 
 -- the slices are long enough for the areas
@@ -54,13 +54,13 @@ pub record Lent (n : ℕ) (top bits : List ℕ) : Type 0 where
 
 module _ (n : ℕ) (k : known n ≡ true) where
   -- what was made of a set R that agrees with S is what is made of S
-  pub settled : (v : Verdict) (R S : Set) (t b t₀ b₀ : List ℕ) {r : Made} {t' b' : List ℕ} → v ≡ taken → Agree (W (config_at n)) R S
+  pub settled : (v : Verdict) (R S : Set) (t b t₀ b₀ : List ℕ) {r : Result Filter Refusal} {t' b' : List ℕ} → v ≡ taken → Agree (W (config_at n)) R S
       → top_slice (config_at n) R t ≡ top_slice (config_at n) R t₀ → bit_slice (config_at n) R b ≡ bit_slice (config_at n) R b₀
       → Makes v (config_at n) R t b r t' b' → InPlace n S t₀ b₀ r t' b'
   settled v R S t b t₀ b₀ e h p q M =
       let a = filter_agree (config_at n) (line_at n).sound R S h in
       record {
-        answers = M.answers ∙ rw e (ap (λ (x : FilterRecord). Ready (filter_in x)) a.0);
+        answers = M.answers ∙ rw e (ap (λ (x : FilterRecord). Ok (filter_in x)) a.0);
         tops = M.tops ∙ rw e (p ∙ ap (λ (l : List ℕ). filled l (config_at n).M t₀) a.1);
         blocks = M.blocks ∙ rw e (q ∙ ap (λ (l : List ℕ). filled l (blocks (config_at n)) b₀) a.2);
       }
@@ -85,7 +85,7 @@ module _ (n : ℕ) (k : known n ≡ true) where
     shows =
         shown_back (config_at n) (line_at n).sound (record_in (stored S)) (top_slice (config_at n) S t₀) (bit_slice (config_at n) S b₀) S stands
 
-  pub empty_step : (t₀ b₀ : List ℕ) {r : Made} {t b : List ℕ} → Lent n t₀ b₀ → Empties n t₀ b₀ r t b → InPlace n none t₀ b₀ r t b
+  pub empty_step : (t₀ b₀ : List ℕ) {r : Result Filter Refusal} {t b : List ℕ} → Lent n t₀ b₀ → Empties n t₀ b₀ r t b → InPlace n none t₀ b₀ r t b
   unfolding empty_verdict
   empty_step t₀ b₀ L M =
       let x : leb (config_at n).M (length t₀) ≡ true = le-leb _ _ L.tops in
@@ -106,8 +106,8 @@ module _ (n : ℕ) (k : known n ≡ true) where
         (lent_taken (stands_pass {n = n} k (stands S t₀ b₀))) ∙ rw w
 
     -- toggling the filter of S gives that of the set toggled
-    pub toggle_step : (list : List ℕ) {f : Filter} {t b : List ℕ} {r : Made} {t' b' : List ℕ} → all_below (W (config_at n)) list ≡ true
-        → InPlace n S t₀ b₀ (Ready f) t b → Toggles f t b list r t' b' → InPlace n (flips list S) t₀ b₀ r t' b'
+    pub toggle_step : (list : List ℕ) {f : Filter} {t b : List ℕ} {r : Result Filter Refusal} {t' b' : List ℕ} → all_below (W (config_at n)) list ≡ true
+        → InPlace n S t₀ b₀ (Ok f) t b → Toggles f t b list r t' b' → InPlace n (flips list S) t₀ b₀ r t' b'
     toggle_step list {f} {t} {b} {r} {t'} {b'} h P M =
         let e : f ≡ filter_in (record_of (config_at n) S) = cc P.answers in
         let R : Set = flips list (shown_by (stored S) T B) in
@@ -132,8 +132,8 @@ module _ (n : ℕ) (k : known n ≡ true) where
           L.tops L.blocks
 
       -- of the filters of S and Q it is that of their symmetric difference
-      pub difference_step : (to to_bits : List ℕ) {f g : Filter} {t b t₂ b₂ : List ℕ} {r : Made} {t' b' : List ℕ} → Lent n to to_bits
-          → InPlace n S t₀ b₀ (Ready f) t b → InPlace n Q t₁ b₁ (Ready g) t₂ b₂ → Differs f t b g t₂ b₂ to to_bits r t' b'
+      pub difference_step : (to to_bits : List ℕ) {f g : Filter} {t b t₂ b₂ : List ℕ} {r : Result Filter Refusal} {t' b' : List ℕ} → Lent n to to_bits
+          → InPlace n S t₀ b₀ (Ok f) t b → InPlace n Q t₁ b₁ (Ok g) t₂ b₂ → Differs f t b g t₂ b₂ to to_bits r t' b'
           → InPlace n (apart S Q) to to_bits r t' b'
       difference_step to to_bits {f} {g} {t} {b} {t₂} {b₂} {r} {t'} {b'} L P P₂ M =
           let e : f ≡ filter_in (record_of (config_at n) S) = cc P.answers in

@@ -2,7 +2,7 @@
 use mathlib.Core.Path.{◌≡◌, refl, sym, ap, ◌∙◌, subst}
 use mathlib.Core.Bool.{true}
 use mathlib.Core.List.{List}
-use Prim.Native.Nat.{ℕ, ◌-◌, ◌*◌, ◌≤◌}
+use Prim.Native.Nat.{ℕ, ◌-◌, ◌*◌, ◌^◌, ◌≤◌}
 use native.Mathlib.Omega.{arith}
 use lib.ListN.{length, get_or, take}
 use Rattle.sets.specs.Sets.{Agree, Set}
@@ -17,16 +17,15 @@ use Rattle.sets.proofs.Split.{edge_low, set_split}
 use Rattle.sizes.specs.Sizes.{sizes_at, refusal}
 use Rattle.sizes.specs.declared.Sizes.{Sizes}
 use Rattle.sizes.specs.declared.Refusal.{Refusal}
-use Rattle.sizes.specs.declared.SizesAnswer.{SizesAnswer}
-use Rattle.sizes.specs.declared.SizesAnswer.TheVariants as sizes
 use Rattle.bitvec.specs.Parts.{Room}
 use Rattle.bitvec.specs.declared.Tally.{Tally}
-use Rattle.bitchunks.specs.Walk.{Walks, filter_set}
+use Rattle.bitchunks.specs.Walk.{Ahead, PartsOf, merged}
 use Rattle.bitchunks.proofs.Shown.{holds_walk}
 use Rattle.judge.specs.Judging.{filter_of, judged, two_of}
 use Rattle.judge.proofs.Verdicts.{Passes, filter_told, filter_refused, filter_pass, judged_known, judged_refused, two_pass, two_alone}
 use Rattle.diff_count.specs.Making.{filters_of, record_in, tally_of}
 use Rattle.diff_count.specs.declared.Filter.{Filter}
+use Rattle.std.specs.Prelude.{Result, Ok, Err}
 
 -- ---- the sizes answered
 
@@ -76,12 +75,14 @@ module _ {m k : ℕ} {top bits : List ℕ} {count edge : ℕ} where
         last = falls_low (take count top) (64 * k) (count - 1) C.falling;
       }
 
-  -- a walk over it goes over the set
-  pub fits_walk : (n : ℕ) → n ≡ blocks_for edge → Fits m k top bits count edge
-      → Walks top count bits n 0 k × Agree (64 * k) (filter_set top count bits n) (shown top bits count edge)
-  fits_walk n e F =
-      subst (λ (x : ℕ). Walks top count bits x 0 k × Agree (64 * k) (filter_set top count bits x) (shown top bits count edge)) (sym e)
-      (holds_walk F.room.some F.room.small F.room.cells F.room.blocks_in F.holds)
+  -- its parts are within what was lent
+  pub fits_parts : Fits m k top bits count edge → (count ≤ length top) × (edge ≤ 2 ^ 32) × (blocks_for edge ≤ length bits)
+  fits_parts F = (omega (arith, F), omega (arith, F), omega (arith, F))
+
+  -- a walk over them goes over the set
+  pub fits_walk : {tops blocks : List ℕ} → PartsOf tops blocks top count bits edge → Fits m k top bits count edge
+      → Ahead tops 0 k × Agree (64 * k) (merged tops 0 blocks) (shown top bits count edge)
+  fits_walk P F = holds_walk F.room.some F.room.small P F.holds
 
 -- ---- a call on one filter
 
@@ -92,8 +93,8 @@ pub record One (f : Filter) (top bits : List ℕ) (s : Sizes) : Type 0 where
   pub fits : Fits s.top s.blocks top bits f.count f.boundary
 
 -- or a refusal
-pub one_not : (f : Filter) (top bits : List ℕ) (x : Refusal) {r : SizesAnswer} → r ≡ filter_of f.config (tally_of f) top bits
-    → r ≡ sizes.Refused x
+pub one_not : (f : Filter) (top bits : List ℕ) (x : Refusal) {r : Result Sizes Refusal} → r ≡ filter_of f.config (tally_of f) top bits
+    → r ≡ Err x
     → (k : Cause) × (verdict (filter_lent (record_in f) top bits) ≡ refused k) × (x ≡ refusal k)
 one_not f top bits x e q = filter_refused f.config (tally_of f) top bits x (sym e ∙ q)
 
@@ -103,7 +104,7 @@ fits_at n t top bits s e P =
     subst (λ (x : Sizes). Fits x.top x.blocks top bits t.count t.boundary) (sym e) (fits P.room P.sound)
 
 module _ (f : Filter) (top bits : List ℕ) (s : Sizes) where
-  pub one : {r : SizesAnswer} → r ≡ filter_of f.config (tally_of f) top bits → r ≡ sizes.Known s → One f top bits s
+  pub one : {r : Result Sizes Refusal} → r ≡ filter_of f.config (tally_of f) top bits → r ≡ Ok s → One f top bits s
   one e q =
       let t = filter_told f.config (tally_of f) top bits s (sym e ∙ q) in
       record {
@@ -121,7 +122,7 @@ pub record Two (f : Filter) (top bits : List ℕ) (g : Filter) (top2 bits2 : Lis
   pub fits2 : Fits s.top s.blocks top2 bits2 g.count g.boundary
 
 -- the answer of `judge::two_filters` where the third's lengths are the first's
-pub two_lent : (f : Filter) (top bits : List ℕ) (g : Filter) (top2 bits2 : List ℕ) {r : SizesAnswer}
+pub two_lent : (f : Filter) (top bits : List ℕ) (g : Filter) (top2 bits2 : List ℕ) {r : Result Sizes Refusal}
     → r ≡ two_of f.config (tally_of f) top bits g.config (tally_of g) top2 bits2 (length top) (length bits) → r
     ≡ filters_of f top bits g top2 bits2
 unfolding two_of filters_of
@@ -129,12 +130,12 @@ two_lent f top bits g top2 bits2 e =
     e ∙ ap (judged f.config) (two_alone f.config (tally_of f) top bits g.config (tally_of g) top2 bits2)
 
 module _ (f : Filter) (top bits : List ℕ) (g : Filter) (top2 bits2 : List ℕ) where
-  pub two_not : (x : Refusal) {r : SizesAnswer} → r ≡ filters_of f top bits g top2 bits2 → r ≡ sizes.Refused x
+  pub two_not : (x : Refusal) {r : Result Sizes Refusal} → r ≡ filters_of f top bits g top2 bits2 → r ≡ Err x
       → (k : Cause) × (verdict (filters_lent (record_in f) top bits (record_in g) top2 bits2) ≡ refused k) × (x ≡ refusal k)
   unfolding filters_of
   two_not x e q = judged_refused f.config (verdict (filters_lent (record_in f) top bits (record_in g) top2 bits2)) x (sym e ∙ q)
 
-  pub two : (s : Sizes) {r : SizesAnswer} → r ≡ filters_of f top bits g top2 bits2 → r ≡ sizes.Known s → Two f top bits g top2 bits2 s
+  pub two : (s : Sizes) {r : Result Sizes Refusal} → r ≡ filters_of f top bits g top2 bits2 → r ≡ Ok s → Two f top bits g top2 bits2 s
   unfolding filters_of
   two s e q =
       let t = judged_known f.config (verdict (filters_lent (record_in f) top bits (record_in g) top2 bits2)) s (sym e ∙ q) in

@@ -1,18 +1,17 @@
 -- A filter made in lent memory: what a call answers and leaves.
-use Rattle.std.specs.Prelude.{◌≡◌, List, ℕ, ◌*◌, ◌≤◌, ◌<◌, length, get_or, drop}
+use Rattle.std.specs.Prelude.{◌≡◌, List, ℕ, ◌*◌, ◌≤◌, ◌<◌, length, get_or, drop, Result, Ok, Err}
 use Rattle.sets.specs.Sets.{Agree, Below, Empty, Set, apart, flips}
 use Rattle.sets.specs.Words.{held}
 use Rattle.sets.specs.Configurations.{Config}
 use Rattle.sets.specs.Filter.{FilterRecord, record_of, shown, top_slice, bit_slice}
 use Rattle.sets.specs.Refusals.{Verdict, verdict, answer, filters_lent}
 use Rattle.sizes.specs.Sizes.{refusal}
-use Rattle.sizes.specs.declared.SizesAnswer.{SizesAnswer}
 use Rattle.bitvec.specs.Parts.{Becomes}
 use Rattle.bitvec.specs.declared.Tally.{Tally}
 use Rattle.judge.specs.Judging.{judged}
 use Rattle.diff_count.specs.declared.Filter.{Filter}
-use Rattle.diff_count.specs.declared.Made.{Made}
-use Rattle.diff_count.specs.declared.Made.TheVariants.{Ready, Refused}
+use Rattle.sizes.specs.declared.Sizes.{Sizes}
+use Rattle.sizes.specs.declared.Refusal.{Refusal}
 
 -- 01's record (configuration, top count, boundary)
 abbrev pub record_in : Filter → FilterRecord
@@ -25,13 +24,13 @@ abbrev pub tally_of : Filter → Tally
 tally_of f = record { count = f.count; boundary = f.boundary }
 
 -- 1, 3, 8 and 9 of two filters: the sizes, or the number of the first test that fails
-unfoldable pub filters_of : Filter → List ℕ → List ℕ → Filter → List ℕ → List ℕ → SizesAnswer
+unfoldable pub filters_of : Filter → List ℕ → List ℕ → Filter → List ℕ → List ℕ → Result Sizes Refusal
 filters_of f top bits g top2 bits2 = judged f.config (verdict (filters_lent (record_in f) top bits (record_in g) top2 bits2))
 
 -- the promise of a call that makes the filter of S in a configuration: an equation for the answer and for each slice that it writes;
 -- a refusal gives its number, and leaves the slices as they came
-pub record Makes (v : Verdict) (c : Config) (S : Set) (top bits : List ℕ) (r : Made) (top' bits' : List ℕ) : Type 0 where
-  pub answers : r ≡ answer v (λ n. Refused (refusal n)) (Ready (filter_in (record_of c S)))
+pub record Makes (v : Verdict) (c : Config) (S : Set) (top bits : List ℕ) (r : Result Filter Refusal) (top' bits' : List ℕ) : Type 0 where
+  pub answers : r ≡ answer v (λ n. Err (refusal n)) (Ok (filter_in (record_of c S)))
   pub tops : top' ≡ answer v (λ n. top) (top_slice c S top)
   pub blocks : bits' ≡ answer v (λ n. bits) (bit_slice c S bits)
 

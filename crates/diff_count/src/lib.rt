@@ -5,14 +5,14 @@ ghost use Rattle.std.specs.Prelude.{◌≡◌, true, ◌*◌, ◌^◌, ◌≤◌
 ghost use Rattle.sets.specs.Sets.{Below, apart};
 ghost use Rattle.sets.specs.Filter.{is_filter};
 ghost use Rattle.bitvec.specs.Parts.{Becomes, Room};
-ghost use Rattle.judge.specs.Judging.{filter_of};
-ghost use Rattle.diff_count.specs.Making.{BitsApart, BitsBelow, Flipped, Led, UpTo, filters_of, shown_of, tally_of};
+ghost use Rattle.judge.specs.Judging.{filter_of, record_at};
+ghost use Rattle.diff_count.specs.Making.{BitsApart, BitsBelow, Flipped, Led, UpTo, filter_in, filters_of, shown_of, tally_of};
 ghost use Rattle.diff_count.specs.Calls.{Empties, Toggles, Differs};
 
 use bitvec::Tally;
-use sizes::{Refusal, SizesAnswer};
+use sizes::{Refusal, Sizes};
 
-#[derive(Clone, Copy)]
+#[derive(Clone, Copy, PartialEq, Eq)]
 pub struct Filter {
     pub config: u64,
     // the entries of the top list
@@ -20,42 +20,41 @@ pub struct Filter {
     pub boundary: usize,
 }
 
-// The record of the filter that was made; or why none was.
-#[derive(Clone, Copy)]
-pub enum Made {
-    Ready(Filter),
-    Refused(Refusal),
+impl From<Filter> for Tally {
+    ghost from_gives = { λ f t. t ≡ tally_of f };
+
+    fn from(f: Filter) -> Tally {
+        Tally {
+            count: f.count,
+            boundary: f.boundary,
+        }
+    }
 }
 
-// How many blocks there are up to those of the first n buckets listed; `least` at least.
-fn blocks_up_to(list: &[u32], n: usize, least: usize) -> usize
-    requires { n ≤ length list.now }
-    ensures { UpTo (take n list.now) least result }
+// How many blocks there are up to those of the buckets listed; `least` at least.
+fn blocks_up_to(list: &[u32], least: usize) -> usize
+    ensures { UpTo list.now least result }
 {
     let mut most = least;
-    let mut i = 0;
-    while i < n {
-        let up_to = buckets::into_index(buckets::into_usize(list[i])) + 1;
-        if most < up_to {
-            most = up_to;
-        }
-        i += 1;
+    for &bucket in list {
+        most = most.max(buckets::into_index(buckets::into_usize(bucket)) + 1);
     }
     most
 }
 
 // The same of a list in which none is above the first.
-fn blocks_up_to_first(list: &[u32], n: usize, least: usize) -> usize
-    requires { (n ≤ length list.now) × Led (take n list.now) }
-    ensures { UpTo (take n list.now) least result }
+fn blocks_up_to_first(list: &[u32], least: usize) -> usize
+    requires { Led list.now }
+    ensures { UpTo list.now least result }
 {
-    if n == 0 {
+    if list.is_empty() {
         return least;
     }
-    blocks_up_to(list, 1, least)
+    blocks_up_to(&list[..1], least)
 }
 
 // Flips the buckets listed in the filter that stands in the areas: in the blocks, with its whole set folded into them.
+// `Room` stays a clause: document 01 lends the two areas apart.
 fn flip_and_split(
     top: &mut [u32],
     blocks: &mut [u64],
@@ -71,14 +70,14 @@ fn flip_and_split(
         result top.new blocks.new }
 {
     let count = tally.count;
-    let listed = list.len();
-    let n = blocks_up_to(list, listed, blocks_up_to_first(top, count, 0));
+    let n = blocks_up_to(list, blocks_up_to_first(&top[..count], 0));
     bitvec::fold(top, count, blocks, k);
-    bitvec::toggle_all(blocks, list, listed);
+    bitvec::toggle_all(blocks, list);
     bitvec::split(top, blocks, m, k, n)
 }
 
 // Flips the buckets listed in the filter that stands in the areas. Below the boundary that is a matter of the bits alone.
+// `Room` stays a clause: document 01 lends the two areas apart.
 fn flip_all(
     top: &mut [u32],
     blocks: &mut [u64],
@@ -94,14 +93,14 @@ fn flip_all(
         result top.new blocks.new }
 {
     if judge::all_below(list, tally.boundary) {
-        bitvec::toggle_all(blocks, list, list.len());
+        bitvec::toggle_all(blocks, list);
         return tally;
     }
     flip_and_split(top, blocks, tally, m, k, list)
 }
 
 // The symmetric difference of two bitmaps, in the first k blocks of a third. Neither holds a bucket at or above its boundary, so the
-// blocks above both are not read.
+// blocks above both are not read. k is the area's size: the promise tells that the blocks past it stay.
 fn xor_bits(
     to_blocks: &mut [u64],
     k: usize,
@@ -115,16 +114,13 @@ fn xor_bits(
     requires bits_below_2 { BitsBelow k boundary2 blocks2.now }
     ensures { BitsApart k blocks.now blocks2.now to_blocks.old to_blocks.new }
 {
-    let mut edge = boundary;
-    if edge < boundary2 {
-        edge = boundary2;
-    }
-    let n = bitvec::num_blocks(edge);
-    bitvec::xor(to_blocks, blocks, blocks2, n);
-    bitvec::zero_blocks(to_blocks, n, k);
+    let n = bitvec::num_blocks(boundary.max(boundary2));
+    bitvec::xor(&mut to_blocks[..n], &blocks[..n], &blocks2[..n]);
+    to_blocks[n..k].fill(0);
 }
 
 // The symmetric difference of two filters, in a third pair of areas.
+// `Room` stays a clause: document 01 lends the two areas apart.
 fn xor(
     to_top: &mut [u32],
     to_blocks: &mut [u64],
@@ -148,7 +144,7 @@ fn xor(
 {
     let count = tally.count;
     let count2 = tally2.count;
-    let n = blocks_up_to_first(top2, count2, blocks_up_to_first(top, count, 0));
+    let n = blocks_up_to_first(&top2[..count2], blocks_up_to_first(&top[..count], 0));
     xor_bits(
         to_blocks,
         k,
@@ -157,22 +153,18 @@ fn xor(
         blocks2,
         tally2.boundary,
     );
-    bitvec::toggle_all(to_blocks, top, count);
-    bitvec::toggle_all(to_blocks, top2, count2);
+    bitvec::toggle_all(to_blocks, &top[..count]);
+    bitvec::toggle_all(to_blocks, &top2[..count2]);
     bitvec::split(to_top, to_blocks, m, k, n)
 }
 
 // ---- what a call is lent
 
 // 1, 3, 8: the sizes, where a filter was lent.
-pub fn filter_lent(f: Filter, top: &[u32], blocks: &[u64]) -> SizesAnswer
+pub fn filter_lent(f: Filter, top: &[u32], blocks: &[u64]) -> Result<Sizes, Refusal>
     ensures { result ≡ filter_of f.config (tally_of f) top.now blocks.now }
 {
-    let tally = Tally {
-        count: f.count,
-        boundary: f.boundary,
-    };
-    judge::filter(f.config, tally, top, blocks)
+    judge::filter(f.config, Tally::from(f), top, blocks)
 }
 
 // 1, 3, 8, 9: the sizes, where two filters of one configuration were lent. They are judged as if there were a third pair of areas as
@@ -184,24 +176,16 @@ pub fn filters_lent(
     b: Filter,
     top2: &[u32],
     blocks2: &[u64],
-) -> SizesAnswer
+) -> Result<Sizes, Refusal>
     ensures { result ≡ filters_of a top.now blocks.now b top2.now blocks2.now }
 {
-    let tally = Tally {
-        count: a.count,
-        boundary: a.boundary,
-    };
-    let tally2 = Tally {
-        count: b.count,
-        boundary: b.boundary,
-    };
     judge::two_filters(
         a.config,
-        tally,
+        Tally::from(a),
         top,
         blocks,
         b.config,
-        tally2,
+        Tally::from(b),
         top2,
         blocks2,
         top.len(),
@@ -212,48 +196,48 @@ pub fn filters_lent(
 // ---- the calls
 
 // The empty filter.
-pub fn empty(config: u64, top: &mut [u32], blocks: &mut [u64]) -> Made
+pub fn empty(config: u64, top: &mut [u32], blocks: &mut [u64]) -> Result<Filter, Refusal>
     ensures { Empties config top.old blocks.old result top.new blocks.new }
 {
-    match judge::areas(config, top.len(), blocks.len()) {
-        SizesAnswer::Known(s) => {
-            bitvec::zero_cells(top, 0, s.top);
-            bitvec::zero_blocks(blocks, 0, s.blocks);
-            Made::Ready(Filter {
-                config,
-                count: 0,
-                boundary: 0,
-            })
-        }
-        SizesAnswer::Refused(r) => Made::Refused(r),
-    }
+    let s = judge::areas(config, top.len(), blocks.len())?;
+    top[..s.top].fill(0);
+    blocks[..s.blocks].fill(0);
+    Ok(Filter {
+        config,
+        count: 0,
+        boundary: 0,
+    })
 }
 
 impl Filter {
+    // The record of a filter of a configuration.
+    pub fn of(config: u64, tally: Tally) -> Filter
+        ensures { result ≡ filter_in (record_at config tally) }
+    {
+        Filter {
+            config,
+            count: tally.count,
+            boundary: tally.boundary,
+        }
+    }
+
     // The membership of each bucket listed flips, once for each time that it is listed.
-    pub fn toggle(self, top: &mut [u32], blocks: &mut [u64], list: &[u32]) -> Made
+    pub fn toggle(
+        self,
+        top: &mut [u32],
+        blocks: &mut [u64],
+        list: &[u32],
+    ) -> Result<Filter, Refusal>
         ensures { Toggles self top.old blocks.old list.now
             result top.new blocks.new }
     {
-        let config = self.config;
-        let tally = Tally {
-            count: self.count,
-            boundary: self.boundary,
-        };
-        match judge::filter(config, tally, top, blocks) {
-            SizesAnswer::Known(s) => {
-                if !judge::all_below(list, s.buckets) {
-                    return Made::Refused(sizes::RANGE);
-                }
-                let next = flip_all(top, blocks, tally, s.top, s.blocks, list);
-                Made::Ready(Filter {
-                    config,
-                    count: next.count,
-                    boundary: next.boundary,
-                })
-            }
-            SizesAnswer::Refused(r) => Made::Refused(r),
+        let tally = Tally::from(self);
+        let s = judge::filter(self.config, tally, top, blocks)?;
+        if !judge::all_below(list, s.buckets) {
+            return Err(Refusal::Range);
         }
+        let next = flip_all(top, blocks, tally, s.top, s.blocks, list);
+        Ok(Filter::of(self.config, next))
     }
 }
 
@@ -267,21 +251,14 @@ pub fn symmetric_difference(
     blocks2: &[u64],
     to_top: &mut [u32],
     to_blocks: &mut [u64],
-) -> Made
+) -> Result<Filter, Refusal>
     ensures { Differs a top.now blocks.now b top2.now blocks2.now
         to_top.old to_blocks.old result to_top.new to_blocks.new }
 {
-    let config = a.config;
-    let tally = Tally {
-        count: a.count,
-        boundary: a.boundary,
-    };
-    let tally2 = Tally {
-        count: b.count,
-        boundary: b.boundary,
-    };
-    match judge::two_filters(
-        config,
+    let tally = Tally::from(a);
+    let tally2 = Tally::from(b);
+    let s = judge::two_filters(
+        a.config,
         tally,
         top,
         blocks,
@@ -291,17 +268,9 @@ pub fn symmetric_difference(
         blocks2,
         to_top.len(),
         to_blocks.len(),
-    ) {
-        SizesAnswer::Known(s) => {
-            let third = xor(
-                to_top, to_blocks, s.top, s.blocks, top, blocks, tally, top2, blocks2, tally2,
-            );
-            Made::Ready(Filter {
-                config,
-                count: third.count,
-                boundary: third.boundary,
-            })
-        }
-        SizesAnswer::Refused(r) => Made::Refused(r),
-    }
+    )?;
+    let third = xor(
+        to_top, to_blocks, s.top, s.blocks, top, blocks, tally, top2, blocks2, tally2,
+    );
+    Ok(Filter::of(a.config, third))
 }

@@ -1,5 +1,3 @@
-pub mod Chains
-pub mod Digits
+pub mod Pieces
+pub mod Decimals
 pub mod Hex
-pub mod Listing
-pub mod Putting

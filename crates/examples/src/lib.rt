@@ -1,16 +1,14 @@
-// What the programs share: how an input is read; and for those that try our calls, filters to try them on, comparers, and the letters
-// that they write.
+// What the programs share: how an input is read; and for those that try our calls, filters to try them on, and the letters that they
+// write.
 #![tactic(auto)]
 
 ghost use Rattle.std.specs.Prelude.{◌≡◌, ◌≢◌, ◌<◌, ◌≤◌, length, take, IfOk, IfErr, OnOk, IsTrue, ◌↔◌, if◌then◌else◌, codes};
 ghost use Rattle.std.specs.Io.KnownBytes.{Appends, Consumes, IsAtEnd};
-ghost use Rattle.std.specs.Io.{StartsWith};
 ghost use Rattle.std.specs.IoError.{error_kind};
-ghost use Rattle.sizes.specs.declared.Refusal.{Refusal};
-ghost use Rattle.diff_count.specs.declared.Filter.{Filter};
 ghost use Rattle.examples.specs.Trying.{Tried};
 
-use diff_count::Made;
+use diff_count::Filter;
+use sizes::Refusal;
 use std::io;
 use std::io::{ErrorKind, Read, Write};
 
@@ -43,50 +41,18 @@ pub fn read_full<R: Read>(reader: &mut R, buf: &mut [u8]) -> io::Result<usize>
 // ---- filters
 
 // The empty filter of configuration 7, with the list toggled.
-pub fn filter_of(top: &mut [u32], blocks: &mut [u64], list: &[u32]) -> Made
+pub fn filter_of(top: &mut [u32], blocks: &mut [u64], list: &[u32]) -> Result<Filter, Refusal>
     ensures { Tried top.old blocks.old list.now result top.new blocks.new }
 {
-    match diff_count::empty(7, top, blocks) {
-        Made::Ready(f) => f.toggle(top, blocks, list),
-        Made::Refused(r) => Made::Refused(r),
-    }
+    let f = diff_count::empty(7, top, blocks)?;
+    f.toggle(top, blocks, list)
 }
 
 // Whether a filter was made, with so many top entries and that boundary.
-pub fn is_filter(made: Made, count: usize, boundary: usize) -> bool
-    ensures { IsTrue result ↔ ((f : Filter) × (made ≡ Made.Ready f) × (f.count ≡ count) × (f.boundary ≡ boundary)) }
+pub fn is_filter(made: Result<Filter, Refusal>, count: usize, boundary: usize) -> bool
+    ensures { IsTrue result ↔ ((f : Filter) × (made ≡ Ok f) × (f.count ≡ count) × (f.boundary ≡ boundary)) }
 {
-    match made {
-        Made::Ready(f) => f.count == count && f.boundary == boundary,
-        Made::Refused(_) => false,
-    }
-}
-
-// The number of the refusal, 0 where there is none.
-pub fn refusal_of(made: Made) -> u8
-    ensures ready { (f : Filter) → made ≡ Made.Ready f → result ≡ 0 }
-    ensures refused { (r : Refusal) → made ≡ Made.Refused r → result ≡ r.number }
-{
-    match made {
-        Made::Ready(_) => 0,
-        Made::Refused(r) => r.number,
-    }
-}
-
-// ---- areas. For bytes, `decode::starts_with` does the same
-
-// Whether a slice begins with those cells.
-pub fn cells_are(cells: &[u32], wanted: &[u32]) -> bool
-    ensures { IsTrue result ↔ StartsWith cells.now wanted.now }
-{
-    cells.starts_with(wanted)
-}
-
-// Whether a slice begins with those blocks.
-pub fn blocks_are(blocks: &[u64], wanted: &[u64]) -> bool
-    ensures { IsTrue result ↔ StartsWith blocks.now wanted.now }
-{
-    blocks.starts_with(wanted)
+    matches!(made, Ok(f) if f.count == count && f.boundary == boundary)
 }
 
 // ---- letters

@@ -1,5 +1,6 @@
 // The face for C and Rust: each public call under a C name. A number stands for itself, a slice is a pointer and a length, and a
 // record is a lent array of cells. Each answers 0, or the number of the refusal, which leaves every cell as it was.
+// include/zamgulekt.h fixes names and parameters, so what belongs together is lent in parts.
 #![tactic(auto)]
 
 ghost use Rattle.std.specs.Prelude.{◌≡◌, [], ◌∷◌};
@@ -9,23 +10,18 @@ ghost use Rattle.builder.specs.Calls.{News, Pushes, Finishes, raised};
 ghost use Rattle.counts.specs.Counting.{exact_of, limited_of, exact_difference_of, limited_difference_of};
 ghost use Rattle.masked.specs.Calls.{cmp_of, key_for};
 ghost use Rattle.rows.specs.Calls.{Reads, Writes, open_of};
-ghost use Rattle.rows.specs.declared.WriteAnswer.{WriteAnswer};
 ghost use Rattle.row_order.specs.Calls.{cmp_rows_of, greater_of};
 ghost use Rattle.row_reader.specs.Reading.{step_answer, step_place};
 ghost use Rattle.compare_text.specs.Answers.{Compares};
-ghost use Rattle.compare_text.specs.declared.TextAnswer.{TextAnswer};
-ghost use Rattle.exports.specs.Told.{Tells, builder_in, filter_in, gives, built_told, count_told, greater_told, key_told, limited_told};
-ghost use Rattle.exports.specs.Told.{made_told, open_told, order_numbered, sizes_told, stepped_told, text_told, write_told};
+ghost use Rattle.exports.specs.Told.{Tells, told, gives, builder_in, filter_in, builder_cells, filter_cells, limited_cells, sizes_cells};
+ghost use Rattle.exports.specs.Told.{greater_cell, number_cell, order_cell, step_cells, stepped_cells};
 ghost use Rattle.exports.specs.Calls.{MakesBuilder, MakesFilter, Steps, Wraps, row_named};
 
-use builder::{Builder, Built};
-use compare_text::TextAnswer;
-use counts::{CountAnswer, LimitedAnswer};
-use diff_count::{Filter, Made};
-use masked::{KeyAnswer, OrderAnswer};
-use row_reader::RowStep;
-use rows::{OpenAnswer, WriteAnswer};
-use sizes::SizesAnswer;
+use bitchunks::Limited;
+use builder::Builder;
+use diff_count::Filter;
+use sizes::{Refusal, Sizes};
+use std::cmp::Ordering;
 
 // How many cells each record has. A field that joins a record later makes it longer.
 const SIZES: usize = 9;
@@ -42,121 +38,151 @@ const STEP: usize = 2;
 
 const STEPPED: usize = 3;
 
-// ---- records in cells
+// ---- values in cells
 
+// No `From`: both of its sides would be other crates' types.
 fn filter_in(cells: &[u64; FILTER]) -> Filter
     ensures { result ≡ filter_in cells.now }
 {
+    let [config, count, boundary] = *cells;
     Filter {
-        config: cells[0],
-        count: cells[1] as usize,
-        boundary: cells[2] as usize,
+        config,
+        count: count as usize,
+        boundary: boundary as usize,
     }
 }
 
 fn builder_in(cells: &[u64; BUILDER]) -> Builder
     ensures { result ≡ builder_in cells.now }
 {
+    let [config, split, count] = *cells;
     Builder {
-        config: cells[0],
-        split: cells[1] as usize,
-        count: cells[2] as usize,
+        config,
+        split: split as usize,
+        count: count as usize,
     }
 }
 
-// ---- what an answer tells: its values to the cells, and 0; or its number
+// A value as a program in C sees it: in one cell, or in an array of them.
+trait Cells<C> {
+    ghost cells: { Self → C };
 
-fn put_made(cells: &mut [u64; FILTER], made: Made) -> u8
-    ensures { Tells (made_told made) cells.old result cells.new }
-{
-    match made {
-        Made::Ready(f) => {
-            *cells = [f.config, f.count as u64, f.boundary as u64];
-            0
+    fn cells(self) -> C
+        ensures { result ≡ cells self };
+}
+
+impl Cells<[u64; FILTER]> for Filter {
+    ghost cells = { filter_cells };
+
+    fn cells(self) -> [u64; FILTER] {
+        [self.config, self.count as u64, self.boundary as u64]
+    }
+}
+
+impl Cells<[u64; BUILDER]> for Builder {
+    ghost cells = { builder_cells };
+
+    fn cells(self) -> [u64; BUILDER] {
+        [self.config, self.split as u64, self.count as u64]
+    }
+}
+
+impl Cells<[u64; SIZES]> for Sizes {
+    ghost cells = { sizes_cells };
+
+    fn cells(self) -> [u64; SIZES] {
+        [
+            self.level as u64,
+            self.top as u64,
+            self.entry as u64,
+            self.budget as u64,
+            self.buckets as u64,
+            self.blocks as u64,
+            self.bits as u64,
+            self.window as u64,
+            self.longest as u64,
+        ]
+    }
+}
+
+impl Cells<[u64; LIMITED]> for Limited {
+    ghost cells = { limited_cells };
+
+    fn cells(self) -> [u64; LIMITED] {
+        [self.count as u64, self.bound as u64]
+    }
+}
+
+impl Cells<u64> for usize {
+    ghost cells = { number_cell };
+
+    fn cells(self) -> u64 {
+        self as u64
+    }
+}
+
+impl Cells<u64> for u64 {
+    ghost cells = { number_cell };
+
+    fn cells(self) -> u64 {
+        self
+    }
+}
+
+impl Cells<u64> for Ordering {
+    ghost cells = { order_cell };
+
+    fn cells(self) -> u64 {
+        match self {
+            Ordering::Less => 0,
+            Ordering::Equal => 1,
+            Ordering::Greater => 2,
         }
-        Made::Refused(r) => r.number,
     }
 }
 
-fn put_built(cells: &mut [u64; BUILDER], built: Built) -> u8
-    ensures { Tells (built_told built) cells.old result cells.new }
-{
-    match built {
-        Built::Next(b) => {
-            *cells = [b.config, b.split as u64, b.count as u64];
-            0
+impl Cells<[u64; STEP]> for Option<u32> {
+    ghost cells = { step_cells };
+
+    fn cells(self) -> [u64; STEP] {
+        match self {
+            Some(p) => [1, p as u64],
+            None => [0, 0],
         }
-        Built::Refused(r) => r.number,
     }
 }
 
-fn put_count(to: &mut u64, answer: CountAnswer) -> u8
-    ensures { Tells (count_told answer) (to.old ∷ []) result (to.new ∷ []) }
+// A step's bucket, and the place after it.
+impl Cells<[u64; STEPPED]> for (Option<u32>, usize) {
+    ghost cells = { λ x. stepped_cells x.1 x.0 };
+
+    fn cells(self) -> [u64; STEPPED] {
+        let (given, place) = self;
+        let [told, bucket] = given.cells();
+        [told, bucket, place as u64]
+    }
+}
+
+// What an answer tells: its values to the cells, and 0; or its number.
+fn put<C: Copy, T: Cells<C>>(to: &mut C, answer: Result<T, Refusal>) -> u8
+    ensures { Tells (told T.cells answer) to.old result to.new }
 {
     match answer {
-        CountAnswer::Count(n) => {
-            *to = n as u64;
+        Ok(x) => {
+            *to = x.cells();
             0
         }
-        CountAnswer::Refused(r) => r.number,
+        Err(r) => r.number(),
     }
 }
 
-fn put_limited(to: &mut [u64; LIMITED], answer: LimitedAnswer) -> u8
-    ensures { Tells (limited_told answer) to.old result to.new }
-{
-    match answer {
-        LimitedAnswer::Count(l) => {
-            *to = [l.count as u64, l.bound as u64];
-            0
-        }
-        LimitedAnswer::Refused(r) => r.number,
-    }
-}
-
-fn put_order(to: &mut u64, answer: OrderAnswer) -> u8
-    ensures { Tells (order_numbered answer) (to.old ∷ []) result (to.new ∷ []) }
-{
-    match answer {
-        OrderAnswer::Less => {
-            *to = 0;
-            0
-        }
-        OrderAnswer::Equal => {
-            *to = 1;
-            0
-        }
-        OrderAnswer::Greater => {
-            *to = 2;
-            0
-        }
-        OrderAnswer::Refused(r) => r.number,
-    }
-}
-
-// ---- the calls
+// ---- the calls. Each has a C name of its own, so those of one form are not one function
 
 #[unsafe(no_mangle)]
 pub extern "C" fn zamgulekt_sizes_of(config: u64, sizes: &mut [u64; SIZES]) -> u8
-    ensures { Tells (sizes_told (sizes_of config)) sizes.old result sizes.new }
+    ensures { Tells (told sizes_cells (sizes_of config)) sizes.old result sizes.new }
 {
-    match sizes::sizes_of(config) {
-        SizesAnswer::Known(s) => {
-            *sizes = [
-                s.level as u64,
-                s.top as u64,
-                s.entry as u64,
-                s.budget as u64,
-                s.buckets as u64,
-                s.blocks as u64,
-                s.bits as u64,
-                s.window as u64,
-                s.longest as u64,
-            ];
-            0
-        }
-        SizesAnswer::Refused(r) => r.number,
-    }
+    put(sizes, sizes::sizes_of(config))
 }
 
 #[unsafe(no_mangle)]
@@ -170,7 +196,7 @@ pub extern "C" fn zamgulekt_empty(
         (λ answer. Empties config top.old blocks.old answer top.new blocks.new)
         «record».old result «record».new }
 {
-    put_made(record, diff_count::empty(config, top, blocks))
+    put(record, diff_count::empty(config, top, blocks))
 }
 
 #[unsafe(no_mangle)]
@@ -186,7 +212,7 @@ pub extern "C" fn zamgulekt_toggle(
         «record».old result «record».new }
 {
     let f = filter_in(record);
-    put_made(record, f.toggle(top, blocks, list))
+    put(record, f.toggle(top, blocks, list))
 }
 
 #[unsafe(no_mangle)]
@@ -207,11 +233,18 @@ pub extern "C" fn zamgulekt_symmetric_difference(
         to_top.old to_blocks.old answer to_top.new to_blocks.new)
         to.old result to.new }
 {
-    let f = filter_in(a);
-    let g = filter_in(b);
-    put_made(
+    put(
         to,
-        diff_count::symmetric_difference(f, top, blocks, g, top2, blocks2, to_top, to_blocks),
+        diff_count::symmetric_difference(
+            filter_in(a),
+            top,
+            blocks,
+            filter_in(b),
+            top2,
+            blocks2,
+            to_top,
+            to_blocks,
+        ),
     )
 }
 
@@ -227,7 +260,7 @@ pub extern "C" fn zamgulekt_builder_new(
         (λ answer. News config split pending.old bits.old answer pending.new bits.new)
         builder.old result builder.new }
 {
-    put_built(builder, builder::new(config, split, pending, bits))
+    put(builder, builder::new(config, split, pending, bits))
 }
 
 #[unsafe(no_mangle)]
@@ -243,7 +276,7 @@ pub extern "C" fn zamgulekt_builder_push(
         builder.old result builder.new }
 {
     let b = builder_in(builder);
-    put_built(builder, b.push(pending, bits, list))
+    put(builder, b.push(pending, bits, list))
 }
 
 #[unsafe(no_mangle)]
@@ -253,11 +286,11 @@ pub extern "C" fn zamgulekt_builder_raise(
     bits: &[u64],
     to: usize,
 ) -> u8
-    ensures { Tells (built_told (raised (builder_in builder.old) pending.now bits.now to))
+    ensures { Tells (told builder_cells (raised (builder_in builder.old) pending.now bits.now to))
         builder.old result builder.new }
 {
     let b = builder_in(builder);
-    put_built(builder, b.raise(pending, bits, to))
+    put(builder, b.raise(pending, bits, to))
 }
 
 #[unsafe(no_mangle)]
@@ -274,8 +307,10 @@ pub extern "C" fn zamgulekt_builder_finish(
         top.old blocks.old answer top.new blocks.new)
         «record».old result «record».new }
 {
-    let b = builder_in(builder);
-    put_made(record, b.finish(pending, bits, top, blocks))
+    put(
+        record,
+        builder_in(builder).finish(pending, bits, top, blocks),
+    )
 }
 
 #[unsafe(no_mangle)]
@@ -285,10 +320,10 @@ pub extern "C" fn zamgulekt_exact_count(
     blocks: &[u64],
     count: &mut u64,
 ) -> u8
-    ensures { Tells (count_told (exact_of (filter_in «record».now) top.now blocks.now))
-        (count.old ∷ []) result (count.new ∷ []) }
+    ensures { Tells (told number_cell (exact_of (filter_in «record».now) top.now blocks.now))
+        count.old result count.new }
 {
-    put_count(count, counts::exact_count(filter_in(record), top, blocks))
+    put(count, counts::exact_count(filter_in(record), top, blocks))
 }
 
 #[unsafe(no_mangle)]
@@ -298,10 +333,10 @@ pub extern "C" fn zamgulekt_limited_count(
     blocks: &[u64],
     limited: &mut [u64; LIMITED],
 ) -> u8
-    ensures { Tells (limited_told (limited_of (filter_in «record».now) top.now blocks.now))
+    ensures { Tells (told limited_cells (limited_of (filter_in «record».now) top.now blocks.now))
         limited.old result limited.new }
 {
-    put_limited(
+    put(
         limited,
         counts::limited_count(filter_in(record), top, blocks),
     )
@@ -317,11 +352,11 @@ pub extern "C" fn zamgulekt_exact_difference(
     blocks2: &[u64],
     count: &mut u64,
 ) -> u8
-    ensures { Tells (count_told (exact_difference_of (filter_in a.now) top.now blocks.now
+    ensures { Tells (told number_cell (exact_difference_of (filter_in a.now) top.now blocks.now
         (filter_in b.now) top2.now blocks2.now))
-        (count.old ∷ []) result (count.new ∷ []) }
+        count.old result count.new }
 {
-    put_count(
+    put(
         count,
         counts::exact_difference(filter_in(a), top, blocks, filter_in(b), top2, blocks2),
     )
@@ -337,11 +372,11 @@ pub extern "C" fn zamgulekt_limited_difference(
     blocks2: &[u64],
     limited: &mut [u64; LIMITED],
 ) -> u8
-    ensures { Tells (limited_told (limited_difference_of (filter_in a.now) top.now blocks.now
+    ensures { Tells (told limited_cells (limited_difference_of (filter_in a.now) top.now blocks.now
         (filter_in b.now) top2.now blocks2.now))
         limited.old result limited.new }
 {
-    put_limited(
+    put(
         limited,
         counts::limited_difference(filter_in(a), top, blocks, filter_in(b), top2, blocks2),
     )
@@ -359,11 +394,11 @@ pub extern "C" fn zamgulekt_cmp_masked(
     size: usize,
     order: &mut u64,
 ) -> u8
-    ensures { Tells (order_numbered (cmp_of (filter_in a.now) top.now blocks.now
+    ensures { Tells (told order_cell (cmp_of (filter_in a.now) top.now blocks.now
         (filter_in b.now) top2.now blocks2.now mask size))
-        (order.old ∷ []) result (order.new ∷ []) }
+        order.old result order.new }
 {
-    put_order(
+    put(
         order,
         masked::cmp_masked(
             filter_in(a),
@@ -387,16 +422,13 @@ pub extern "C" fn zamgulekt_masked_sort_key(
     size: usize,
     key: &mut u64,
 ) -> u8
-    ensures { Tells (key_told (key_for (filter_in «record».now) top.now blocks.now mask size))
-        (key.old ∷ []) result (key.new ∷ []) }
+    ensures { Tells (told number_cell (key_for (filter_in «record».now) top.now blocks.now mask size))
+        key.old result key.new }
 {
-    match masked::masked_sort_key(filter_in(record), top, blocks, mask, size) {
-        KeyAnswer::Key(k) => {
-            *key = k;
-            0
-        }
-        KeyAnswer::Refused(r) => r.number,
-    }
+    put(
+        key,
+        masked::masked_sort_key(filter_in(record), top, blocks, mask, size),
+    )
 }
 
 #[unsafe(no_mangle)]
@@ -407,18 +439,12 @@ pub extern "C" fn zamgulekt_write(
     row: &mut [u8],
     length: &mut u64,
 ) -> u8
-    ensures { Wraps WriteAnswer write_told
+    ensures { Wraps (told number_cell)
         (λ answer. Writes (filter_in «record».now) top.now blocks.now row.old
         answer row.new)
-        («length».old ∷ []) result («length».new ∷ []) }
+        «length».old result «length».new }
 {
-    match rows::write(filter_in(record), top, blocks, row) {
-        WriteAnswer::Written(len) => {
-            *length = len as u64;
-            0
-        }
-        WriteAnswer::Refused(r) => r.number,
-    }
+    put(length, rows::write(filter_in(record), top, blocks, row))
 }
 
 #[unsafe(no_mangle)]
@@ -433,20 +459,14 @@ pub extern "C" fn zamgulekt_read(
         (λ answer. Reads config row.now top.old blocks.old answer top.new blocks.new)
         «record».old result «record».new }
 {
-    put_made(record, rows::read(config, row, top, blocks))
+    put(record, rows::read(config, row, top, blocks))
 }
 
 #[unsafe(no_mangle)]
 pub extern "C" fn zamgulekt_open(config: u64, row: &[u8], count: &mut u64) -> u8
-    ensures { Tells (open_told (open_of config row.now)) (count.old ∷ []) result (count.new ∷ []) }
+    ensures { Tells (told number_cell (open_of config row.now)) count.old result count.new }
 {
-    match rows::open(config, row) {
-        OpenAnswer::Size(n) => {
-            *count = n as u64;
-            0
-        }
-        OpenAnswer::Refused(r) => r.number,
-    }
+    put(count, rows::open(config, row))
 }
 
 #[unsafe(no_mangle)]
@@ -458,10 +478,10 @@ pub extern "C" fn zamgulekt_cmp_rows(
     second: &[u8],
     order: &mut u64,
 ) -> u8
-    ensures { Tells (order_numbered (cmp_rows_of config mask size first.now second.now))
-        (order.old ∷ []) result (order.new ∷ []) }
+    ensures { Tells (told order_cell (cmp_rows_of config mask size first.now second.now))
+        order.old result order.new }
 {
-    put_order(
+    put(
         order,
         row_order::cmp_rows(config, mask, size, first, second),
     )
@@ -477,27 +497,14 @@ pub extern "C" fn zamgulekt_greater_row(
     second: &[u8],
     which: &mut u64,
 ) -> u8
-    ensures { Tells (greater_told (cmp_rows_of config mask size first.now second.now))
-        (which.old ∷ []) result (which.new ∷ [])
+    ensures { Tells (told greater_cell (cmp_rows_of config mask size first.now second.now))
+        which.old result which.new
         × (greater_of config mask size first.entry second.entry ≡
-        row_named (greater_told (cmp_rows_of config mask size first.now second.now))
+        row_named (told greater_cell (cmp_rows_of config mask size first.now second.now))
         first.entry second.entry) }
 {
-    match row_order::cmp_rows(config, mask, size, first, second) {
-        OrderAnswer::Less => {
-            *which = 1;
-            0
-        }
-        OrderAnswer::Equal => {
-            *which = 0;
-            0
-        }
-        OrderAnswer::Greater => {
-            *which = 0;
-            0
-        }
-        OrderAnswer::Refused(r) => r.number,
-    }
+    let order = row_order::cmp_rows(config, mask, size, first, second);
+    put(which, order.map(|o| o.is_lt() as u64))
 }
 
 // A reader is its configuration and its place; the row is lent beside them. Never refused.
@@ -521,21 +528,10 @@ pub extern "C" fn zamgulekt_row_reader_step(
 ) -> u8
     ensures { Steps reader.old row.now step.old result reader.new step.new }
 {
-    let config = reader[0];
-    let next = row_reader::step_at(row, config, reader[1] as usize);
-    let answer = next.answer;
-    match answer {
-        RowStep::Bucket(p) => {
-            *reader = [config, next.place as u64];
-            *step = [1, p as u64];
-            0
-        }
-        RowStep::End => {
-            *step = [0, 0];
-            0
-        }
-        RowStep::Refused(r) => r.number,
-    }
+    let [config, place] = *reader;
+    let next = row_reader::step_at(row, config, place as usize);
+    *reader = [config, next.place as u64];
+    put(step, next.answer)
 }
 
 #[unsafe(no_mangle)]
@@ -545,35 +541,18 @@ pub extern "C" fn zamgulekt_step_at(
     place: usize,
     stepped: &mut [u64; STEPPED],
 ) -> u8
-    ensures { Tells (stepped_told (step_answer config row.now place) (step_place config row.now place))
+    ensures { Tells (told (stepped_cells (step_place config row.now place)) (step_answer config row.now place))
         stepped.old result stepped.new }
 {
     let next = row_reader::step_at(row, config, place);
-    let answer = next.answer;
-    match answer {
-        RowStep::Bucket(p) => {
-            *stepped = [1, p as u64, next.place as u64];
-            0
-        }
-        RowStep::End => {
-            *stepped = [0, 0, next.place as u64];
-            0
-        }
-        RowStep::Refused(r) => r.number,
-    }
+    put(stepped, next.answer.map(|given| (given, next.place)))
 }
 
 #[unsafe(no_mangle)]
 pub extern "C" fn zamgulekt_compare_text(input: &[u8], text: &mut [u8], length: &mut u64) -> u8
-    ensures { Wraps TextAnswer text_told
+    ensures { Wraps (told number_cell)
         (λ answer. Compares input.now text.old answer text.new)
-        («length».old ∷ []) result («length».new ∷ []) }
+        «length».old result «length».new }
 {
-    match compare_text::compare_text(input, text) {
-        TextAnswer::Written(n) => {
-            *length = n as u64;
-            0
-        }
-        TextAnswer::Refused(r) => r.number,
-    }
+    put(length, compare_text::compare_text(input, text))
 }

@@ -1,5 +1,5 @@
 -- The figures look at the buckets below W alone. Assumes nothing.
-use mathlib.Core.Path.{◌≡◌, ap}
+use mathlib.Core.Path.{◌≡◌}
 use Prim.Native.Nat.{ℕ}
 use Rattle.sets.specs.Sets.{Agree, Set, apart}
 use Rattle.sets.specs.Configurations.{W, config_at}
@@ -8,7 +8,6 @@ use Rattle.sets.proofs.Keys.{key_same}
 use Rattle.sets.proofs.Laws.{apart_agree}
 use Rattle.sets.proofs.Order.{order_same}
 use Rattle.counts.proofs.Counted.{exact_agree, limited_agree}
-use Rattle.masked.specs.Inner.{order_told}
 use Rattle.figures.specs.Figures.{figures_of, pair_of, single_of}
 
 module _ (n mask size : ℕ) where
@@ -27,7 +26,7 @@ module _ (n mask size : ℕ) where
     pair_agree =
         let difference = exact_agree n (apart S T) (apart S' T') differing in
         let limited = limited_agree n (apart S T) (apart S' T') differing in
-        let order = ap order_told (order_same (W (config_at n)) mask size S T S' T' h k) in
+        let order = order_same (W (config_at n)) mask size S T S' T' h k in
         λ i. record { difference = difference i; limited = limited i; order = order i }
 
     pub figures_agree : figures_of (config_at n) mask size S T ≡ figures_of (config_at n) mask size S' T'

@@ -3,16 +3,16 @@
 
 ghost use Rattle.std.specs.Prelude.{◌≡◌, ◌+◌, ◌^◌, ◌≤◌};
 ghost use Rattle.sets.specs.Configurations.{config_at};
-ghost use Rattle.sets.specs.Refusals.{taken};
+ghost use Rattle.sets.specs.Refusals.{filter_lent, is_mask, taken, verdict};
 ghost use Rattle.sets.specs.Text.{overlap as Text·overlap};
 ghost use Rattle.diff_count.specs.Calls.{shown_by};
+ghost use Rattle.diff_count.specs.Making.{record_in};
 ghost use Rattle.masked.specs.Calls.{cmp_verdict};
-ghost use Rattle.figures.specs.Figures.{count_in, figures_of, key_in, limited_in, pair_for, single_for};
+ghost use Rattle.figures.specs.Figures.{figures_of, pair_of, single_of};
 
 use bitchunks::Limited;
-use counts::{CountAnswer, LimitedAnswer};
 use diff_count::Filter;
-use masked::{KeyAnswer, OrderAnswer};
+use std::cmp::Ordering;
 
 #[derive(Clone, Copy)]
 pub struct Single {
@@ -25,7 +25,7 @@ pub struct Single {
 pub struct Pair {
     pub difference: usize,
     pub limited: Limited,
-    pub order: OrderAnswer,
+    pub order: Ordering,
 }
 
 #[derive(Clone, Copy)]
@@ -37,44 +37,17 @@ pub struct Figures {
     pub overlap: usize,
 }
 
-// ---- what the calls answer, where they do not refuse: `figures_of` asks them of filters that were judged
-
-fn count_in(answer: CountAnswer) -> usize
-    ensures { result ≡ count_in answer }
-{
-    match answer {
-        CountAnswer::Count(n) => n,
-        CountAnswer::Refused(_) => 0,
-    }
-}
-
-fn limited_in(answer: LimitedAnswer) -> Limited
-    ensures { result ≡ limited_in answer }
-{
-    match answer {
-        LimitedAnswer::Count(limited) => limited,
-        LimitedAnswer::Refused(_) => Limited { count: 0, bound: 0 },
-    }
-}
-
-fn key_in(answer: KeyAnswer) -> u64
-    ensures { result ≡ key_in answer }
-{
-    match answer {
-        KeyAnswer::Key(key) => key,
-        KeyAnswer::Refused(_) => 0,
-    }
-}
-
-// ---- the figures
+// ---- the figures. Of filters that were judged no call is refused
 
 fn single_for(f: Filter, top: &[u32], blocks: &[u64], mask: u64, size: usize) -> Single
-    ensures { result ≡ single_for f top.now blocks.now mask size }
+    requires filter { verdict (filter_lent (record_in f) top.now blocks.now) ≡ taken }
+    requires mask { verdict (is_mask mask size) ≡ taken }
+    ensures { result ≡ single_of (config_at f.config) mask size (shown_by f top.now blocks.now) }
 {
     Single {
-        ones: count_in(counts::exact_count(f, top, blocks)),
-        limited: limited_in(counts::limited_count(f, top, blocks)),
-        key: key_in(masked::masked_sort_key(f, top, blocks, mask, size)),
+        ones: counts::exact_count(f, top, blocks).unwrap(),
+        limited: counts::limited_count(f, top, blocks).unwrap(),
+        key: masked::masked_sort_key(f, top, blocks, mask, size).unwrap(),
     }
 }
 
@@ -88,12 +61,14 @@ fn pair_for(
     mask: u64,
     size: usize,
 ) -> Pair
-    ensures { result ≡ pair_for f top.now blocks.now g top2.now blocks2.now mask size }
+    requires { cmp_verdict f top.now blocks.now g top2.now blocks2.now mask size ≡ taken }
+    ensures { result ≡ pair_of (config_at f.config) mask size
+        (shown_by f top.now blocks.now) (shown_by g top2.now blocks2.now) }
 {
     Pair {
-        difference: count_in(counts::exact_difference(f, top, blocks, g, top2, blocks2)),
-        limited: limited_in(counts::limited_difference(f, top, blocks, g, top2, blocks2)),
-        order: masked::cmp_masked(f, top, blocks, g, top2, blocks2, mask, size),
+        difference: counts::exact_difference(f, top, blocks, g, top2, blocks2).unwrap(),
+        limited: counts::limited_difference(f, top, blocks, g, top2, blocks2).unwrap(),
+        order: masked::cmp_masked(f, top, blocks, g, top2, blocks2, mask, size).unwrap(),
     }
 }
 

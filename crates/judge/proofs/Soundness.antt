@@ -2,16 +2,16 @@
 use mathlib.Core.Path.{◌≡◌, refl, sym, ap, ap₂, ◌∙◌, subst}
 use mathlib.Core.Bool.{Bool, true, false, not, ◌&&◌, ◌||◌, and-true}
 use mathlib.Core.List.{List, ◌∷◌}
-use Prim.Native.Nat.{ℕ, suc, ◌+◌, ◌-◌, ◌*◌, ◌/◌, ◌%◌, ◌^◌, ◌≤◌, ◌<◌}
+use Prim.Native.Nat.{ℕ, ◌+◌, ◌-◌, ◌*◌, ◌/◌, ◌%◌, ◌^◌, ◌≤◌, ◌<◌}
 use native.Mathlib.Nat.{div-le_self, lt_of_lt_of_le}
 use native.Mathlib.Decide.{dec_lt, ℕ_discrete}
 use native.Mathlib.Numerals.{add-one}
 use native.Mathlib.Omega.{arith}
 use lib.Bits.{bit_or}
 use lib.Dec.{ltb, leb, eqb}
-use lib.ListN.{length, get_or, take, drop, drop_of_length-le}
+use lib.ListN.{length-drop, length, get_or, take, drop, drop_of_length-le}
 use lib.Pow.{pow_mono, pow_pos}
-use lib.Seq.{drop-cons}
+use lib.Seq.{take_all, take-take, drop-cons, get_or-take, length-take-le}
 use borrow.Author.Tests.{lt-ltb, le-ltb, le-leb, lt-leb, eqb-true, eqb-false}
 use Rattle.sets.specs.Sets.{Empty, Falls, all_below}
 use Rattle.sets.specs.Words.{held, digit}
@@ -56,43 +56,33 @@ module _ {limit : ℕ} {l : List ℕ} {above : Bool} {i : ℕ} (t : Asking limit
 -- ---- falls
 
 -- whether the list falls is whether what is left does, from below the last cell seen
-pub record Falling (limit count : ℕ) (top : List ℕ) (last i : ℕ) : Type 0 where
-  pub high : i ≤ count
-  pub to : Falls last (take (count - i) (drop i top)) → Falls limit (take count top)
-  pub back : Falls limit (take count top) → Falls last (take (count - i) (drop i top))
+pub record Falling (limit : ℕ) (top : List ℕ) (last i : ℕ) : Type 0 where
+  pub to : Falls last (drop i top) → Falls limit top
+  pub back : Falls limit top → Falls last (drop i top)
 
-pub fall_start : (limit count : ℕ) (top : List ℕ) → Falling limit count top limit 0
-fall_start limit count top =
-    let e : count - 0 ≡ count = omega arith in
-    record {
-      high = omega arith;
-      to = λ f. subst (λ (x : ℕ). Falls limit (take x top)) e f;
-      back = λ f. subst (λ (x : ℕ). Falls limit (take x top)) (sym e) f;
-    }
+pub fall_start : (limit : ℕ) (top : List ℕ) → Falling limit top limit 0
+fall_start limit top = record { to = λ f. f; back = λ f. f }
 
-module _ {limit count : ℕ} {top : List ℕ} {last i : ℕ} (n : count ≤ length top) (h : i < count) (t : Falling limit count top last i) (x : ℕ)
+module _ {limit : ℕ} {top : List ℕ} {last i : ℕ} (h : i < length top) (t : Falling limit top last i) (x : ℕ)
     (e : x ≡ get_or top i 0) where
-  seen : take (count - i) (drop i top) ≡ x ∷ take (count - (i + 1)) (drop (i + 1) top)
-  seen =
-      let d : count - i ≡ suc (count - (i + 1)) = omega arith in
-      ap₂ (λ (y : ℕ) (l : List ℕ). take y l) d
-      (drop-cons top i 0 (omega arith) ∙ ap₂ (λ (y z : ℕ). y ∷ drop z top) (sym e) (sym (add-one i)))
+  seen : drop i top ≡ x ∷ drop (i + 1) top
+  seen = drop-cons top i 0 h ∙ ap₂ (λ (y z : ℕ). y ∷ drop z top) (sym e) (sym (add-one i))
 
-  pub fall_turn : x < last → Falling limit count top x (i + 1)
+  pub fall_turn : x < last → Falling limit top x (i + 1)
   fall_turn l =
       record {
-        high = omega arith;
         to = λ f. t.to (subst (Falls last) (sym seen) (l, f));
         back = λ f. (subst (Falls last) seen (t.back f)).1;
       }
 
-  pub fall_not : last ≤ x → Falls limit (take count top) → ⊥
+  pub fall_not : last ≤ x → Falls limit top → ⊥
   fall_not l f = omega (arith, (subst (Falls last) seen (t.back f)).0)
 
-pub fall_end : {limit count : ℕ} {top : List ℕ} {last i : ℕ} → count ≤ i → Falling limit count top last i → Falls limit (take count top)
-fall_end {limit} {count} {top} {last} {i} h t =
-    let e : count - i ≡ 0 = omega arith in
-    t.to (subst (λ (x : ℕ). Falls last (take x (drop i top))) (sym e) tt)
+pub fall_end : {limit : ℕ} {top : List ℕ} {last i : ℕ} → length top ≤ i → Falling limit top last i → Falls limit top
+fall_end {limit} {top} {last} {i} h t =
+    let e : take (length top - i) (drop i top) ≡ drop i top = take_all (length top - i) (drop i top) (omega (arith, length-drop i top)) in
+    let z : length top - i ≡ 0 = omega arith in
+    t.to (subst (Falls last) e (subst (λ (x : ℕ). Falls last (take x (drop i top))) (sym z) tt))
 
 -- ---- top_fits
 
@@ -110,6 +100,25 @@ module _ {m : ℕ} (limit : ℕ) (top : List ℕ) (count : ℕ) {r : ℕ} (few :
   pub top_tells : (b : Bool) → eqb r 0 ≡ b → Tells b (TopFits m limit top count)
   top_tells true e = record { few = few; falling = f; unused = G.0 (eqb-true _ _ e) }
   top_tells false e = λ F. eqb-false _ _ e (G.1 F.unused)
+
+-- the slice of the area fits where the area does
+module _ {m limit count : ℕ} {top : List ℕ} (h : m ≤ length top) where
+  pub slice_fits : TopFits m limit top count → TopFits (length (take m top)) limit (take m top) count
+  slice_fits F =
+      record {
+        few = omega (arith, F.few, length-take-le m top h);
+        falling = subst (Falls limit) (sym (take-take count m top F.few)) F.falling;
+        unused = λ i a b. get_or-take m top i 0 (omega (arith, length-take-le m top h)) ∙ F.unused i a (omega (arith, length-take-le m top h));
+      }
+
+  pub area_fits : TopFits (length (take m top)) limit (take m top) count → TopFits m limit top count
+  area_fits F =
+      let few : count ≤ m = omega (arith, F.few, length-take-le m top h) in
+      record {
+        few = few;
+        falling = subst (Falls limit) (take-take count m top few) F.falling;
+        unused = λ i a b. sym (get_or-take m top i 0 b) ∙ F.unused i a (omega (arith, length-take-le m top h));
+      }
 
 -- ---- bits_fit
 
@@ -151,19 +160,36 @@ module _ {k : ℕ} (blocks : List ℕ) (edge i j : ℕ) {r : ℕ} (ei : i ≡ ed
   bits_tell true e = bits_clear (eqb-true _ _ e)
   bits_tell false e = λ B. eqb-false _ _ e (or_none _ _ (first_none B) (G.1 (rest_none B)))
 
+-- what is told of the first blocks as a slice
+pub slice_tells : {k : ℕ} (edge : ℕ) (blocks : List ℕ) → k ≤ length blocks → (b : Bool)
+    → Tells b (Empty (held (take k blocks)) edge (64 * length (take k blocks))) → Tells b (Empty (held blocks) edge (64 * k))
+unfolding held
+slice_tells {k} edge blocks h = go
+  where
+    long : length (take k blocks) ≡ k
+    long = length-take-le k blocks h
+
+    at : (p : ℕ) → p < 64 * k → held (take k blocks) p ≡ held blocks p
+    at p l = ap (λ (x : ℕ). digit x (p % 64)) (get_or-take k blocks (p / 64) 0 (omega arith))
+
+    go : (b : Bool) → Tells b (Empty (held (take k blocks)) edge (64 * length (take k blocks))) → Tells b (Empty (held blocks) edge (64 * k))
+    go true E = λ p a l. sym (at p l) ∙ E p a (omega (arith, long))
+    go false N = λ E. N (λ p a l. at p (omega (arith, long)) ∙ E p a (omega (arith, long)))
+
 -- ---- is_filter
 
 module _ {m k : ℕ} {top blocks : List ℕ} (count edge : ℕ) (room : Room m k top blocks) where
-  pub no_top : (TopFits m (64 * k) top count → ⊥) → false ≡ is_filter m k top blocks count edge
-  no_top h = sym (canon_no room.some (λ C. h (record { few = C.few; falling = C.falling; unused = C.unused })))
+  pub no_top : (TopFits (length (take m top)) (64 * k) (take m top) count → ⊥) → false ≡ is_filter m k top blocks count edge
+  no_top h = sym (canon_no room.some (λ C. h (slice_fits room.cells (record { few = C.few; falling = C.falling; unused = C.unused }))))
 
   module _ (x : ℕ) (e : x ≡ get_or top (m - 1) 0) where
     pub no_edge : (x ≡ edge → ⊥) → false ≡ is_filter m k top blocks count edge
     no_edge h = sym (canon_no room.some (λ C. h (e ∙ sym C.edge_is)))
 
-    pub by_bits : TopFits m (64 * k) top count → x ≡ edge → ((i : ℕ) → get_or blocks i 0 < 2 ^ 64)
-        → (b : Bool) → Tells b (Empty (held blocks) edge (64 * k)) → b ≡ is_filter m k top blocks count edge
-    by_bits F q fit true B =
+    pub by_bits : TopFits (length (take m top)) (64 * k) (take m top) count → x ≡ edge → ((i : ℕ) → get_or blocks i 0 < 2 ^ 64)
+        → (b : Bool) → Tells b (Empty (held (take k blocks)) edge (64 * length (take k blocks))) → b ≡ is_filter m k top blocks count edge
+    by_bits F₀ q fit true B =
+        let F = area_fits room.cells F₀ in
         sym (canon_yes room.some room.cells room.blocks_in fit
-        (record { few = F.few; falling = F.falling; unused = F.unused; edge_is = sym q ∙ e; clear = B }))
-    by_bits F q fit false B = sym (canon_no room.some (λ C. B C.clear))
+        (record { few = F.few; falling = F.falling; unused = F.unused; edge_is = sym q ∙ e; clear = slice_tells _ _ room.blocks_in true B }))
+    by_bits F q fit false B = sym (canon_no room.some (λ C. slice_tells _ _ room.blocks_in false B C.clear))

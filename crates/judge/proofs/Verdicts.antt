@@ -20,22 +20,21 @@ use Rattle.sets.proofs.Verdicts.{after_taken, after_refused, passed, cond_and}
 use Rattle.sizes.specs.Sizes.{sizes_at, sizes_of, refusal}
 use Rattle.sizes.specs.declared.Sizes.{Sizes}
 use Rattle.sizes.specs.declared.Refusal.{Refusal}
-use Rattle.sizes.specs.declared.SizesAnswer.TheVariants.{Known, Refused}
 use Rattle.sizes.proofs.Laws.{known_of, unknown_of}
 use Rattle.bitvec.specs.Parts.{Room}
 use Rattle.bitvec.specs.declared.Tally.{Tally}
-use Rattle.judge.specs.Judging.{roomy, judged, record_at, areas_of, filter_of, two_of, mask_of}
-use Rattle.judge.specs.declared.MaskAnswer.TheVariants as masks
+use Rattle.judge.specs.Judging.{roomy, judged, record_at, areas_of, filter_of, two_of, passing, mask_of}
+use Rattle.std.specs.Prelude.{Ok, Err}
 
 -- ---- of a judge's answer
 
-pub judged_known : (n : ℕ) (v : Verdict) (s : Sizes) → judged n v ≡ Known s → (v ≡ taken) × (s ≡ sizes_at n)
+pub judged_known : (n : ℕ) (v : Verdict) (s : Sizes) → judged n v ≡ Ok s → (v ≡ taken) × (s ≡ sizes_at n)
 judged_known n taken s e = (refl, (cc))
 judged_known n (refused k) s e =
     let z : ◌≡◌ {A = ℕ} 0 1 = cc in
     absurd (omega arith)
 
-pub judged_refused : (n : ℕ) (v : Verdict) (x : Refusal) → judged n v ≡ Refused x → (k : Cause) × (v ≡ refused k) × (x ≡ refusal k)
+pub judged_refused : (n : ℕ) (v : Verdict) (x : Refusal) → judged n v ≡ Err x → (k : Cause) × (v ≡ refused k) × (x ≡ refusal k)
 judged_refused n taken x e =
     let z : ◌≡◌ {A = ℕ} 0 1 = cc in
     absurd (omega arith)
@@ -50,11 +49,11 @@ module _ {A : Type 0} (refusing : Refusal → A) (a : A) {v : Verdict} where
   pub refuses : {x : Refusal} → ((k : Cause) × (v ≡ refused k) × (x ≡ refusal k)) → refusing x ≡ answer v (λ k. refusing (refusal k)) a
   refuses w = ap refusing w.2 ∙ ap (λ (u : Verdict). answer u (λ k. refusing (refusal k)) a) (sym w.1)
 
-judged_taken : (n : ℕ) {v : Verdict} {s : Sizes} → s ≡ sizes_at n → v ≡ taken → Known s ≡ judged n v
-judged_taken n e t = takes (λ x. Refused x) (Known (sizes_at n)) t (ap (λ (x : Sizes). Known x) e)
+judged_taken : (n : ℕ) {v : Verdict} {s : Sizes} → s ≡ sizes_at n → v ≡ taken → Ok s ≡ judged n v
+judged_taken n e t = takes (λ x. Err x) (Ok (sizes_at n)) t (ap (λ (x : Sizes). Ok x) e)
 
-judged_not : (n : ℕ) {v : Verdict} {x : Refusal} (k : Cause) → x ≡ refusal k → v ≡ refused k → Refused x ≡ judged n v
-judged_not n k e t = refuses (λ x. Refused x) (Known (sizes_at n)) (k, t, e)
+judged_not : (n : ℕ) {v : Verdict} {x : Refusal} (k : Cause) → x ≡ refusal k → v ≡ refused k → Err x ≡ judged n v
+judged_not n k e t = refuses (λ x. Err x) (Ok (sizes_at n)) (k, t, e)
 
 -- ---- 1, 3
 
@@ -87,21 +86,21 @@ module _ (n x y : ℕ) where
   areas_are : verdict (areas_lent n x y) ≡ cond (known n) (cond (roomy (sizes_at n) x y) taken (refused (because room))) (refused (because configuration))
   areas_are = ap (λ (v : Verdict). cond (known n) v (refused (because configuration))) (rooms n x y taken)
 
-  pub areas_unknown : (r : Refusal) → sizes_of n ≡ Refused r → Refused r ≡ areas_of n x y
+  pub areas_unknown : (r : Refusal) → sizes_of n ≡ Err r → Err r ≡ areas_of n x y
   unfolding areas_of
   areas_unknown r q =
       let u = unknown_of n r q in
       judged_not n (because configuration) u.1 (areas_are ∙ ap (λ (b : Bool). cond b (cond (roomy (sizes_at n) x y) taken (refused (because room))) (refused (because configuration))) u.0)
 
-  module _ (s : Sizes) (q : sizes_of n ≡ Known s) where
-    pub areas_short : false ≡ roomy s x y → Refused (refusal (because room)) ≡ areas_of n x y
+  module _ (s : Sizes) (q : sizes_of n ≡ Ok s) where
+    pub areas_short : false ≡ roomy s x y → Err (refusal (because room)) ≡ areas_of n x y
     unfolding areas_of
     areas_short h =
         let k = known_of n s q in
         let e : roomy (sizes_at n) x y ≡ false = ap (λ (z : Sizes). roomy z x y) (sym k.1) ∙ sym h in
         judged_not n (because room) refl (areas_are ∙ rw (k.0, e))
 
-    pub areas_fit : true ≡ roomy s x y → Known s ≡ areas_of n x y
+    pub areas_fit : true ≡ roomy s x y → Ok s ≡ areas_of n x y
     unfolding areas_of
     areas_fit h =
         let k = known_of n s q in
@@ -109,11 +108,11 @@ module _ (n x y : ℕ) where
         judged_taken n k.1 (areas_are ∙ rw (k.0, e))
 
   -- what the answer tells: the tests pass, and these are the sizes
-  pub areas_told : (s : Sizes) → areas_of n x y ≡ Known s → (verdict (areas_lent n x y) ≡ taken) × (s ≡ sizes_at n)
+  pub areas_told : (s : Sizes) → areas_of n x y ≡ Ok s → (verdict (areas_lent n x y) ≡ taken) × (s ≡ sizes_at n)
   unfolding areas_of
   areas_told s q = judged_known n (verdict (areas_lent n x y)) s q
 
-  pub areas_refused : (r : Refusal) → areas_of n x y ≡ Refused r → (k : Cause) × (verdict (areas_lent n x y) ≡ refused k) × (r ≡ refusal k)
+  pub areas_refused : (r : Refusal) → areas_of n x y ≡ Err r → (k : Cause) × (verdict (areas_lent n x y) ≡ refused k) × (r ≡ refusal k)
   unfolding areas_of
   areas_refused r q = judged_refused n (verdict (areas_lent n x y)) r q
 
@@ -122,7 +121,7 @@ module _ (n x y : ℕ) where
       let p = passed (known n) (cond (roomy (sizes_at n) x y) taken (refused (because room))) (because configuration) (sym areas_are ∙ t) in
       (p.0, (passed (roomy (sizes_at n) x y) taken (because room) p.1).0)
 
-pub areas_room : (n : ℕ) (top bits : List ℕ) (s : Sizes) → areas_of n (length top) (length bits) ≡ Known s
+pub areas_room : (n : ℕ) (top bits : List ℕ) (s : Sizes) → areas_of n (length top) (length bits) ≡ Ok s
     → Room s.top s.blocks top bits
 areas_room n top bits s q =
     let a = areas_told n (length top) (length bits) s q in
@@ -141,14 +140,14 @@ module _ (n : ℕ) (t : Tally) (top bits : List ℕ) where
   abbrev sound : Bool
   sound = is_filter (config_at n).M (blocks (config_at n)) top bits t.count t.boundary
 
-  pub filter_no_areas : (r : Refusal) → areas_of n (length top) (length bits) ≡ Refused r → Refused r ≡ filter_of n t top bits
+  pub filter_no_areas : (r : Refusal) → areas_of n (length top) (length bits) ≡ Err r → Err r ≡ filter_of n t top bits
   unfolding filter_of
   filter_no_areas r q =
       let a = areas_refused n (length top) (length bits) r q in
       judged_not n a.0 a.2
       (after_refused (areas_lent n (length top) (length bits)) (are_filter (config_at n) (record_at n t) top bits ∷ []) a.1)
 
-  module _ (s : Sizes) (q : areas_of n (length top) (length bits) ≡ Known s) where
+  module _ (s : Sizes) (q : areas_of n (length top) (length bits) ≡ Ok s) where
     by_soundness : verdict (filter_lent (record_at n t) top bits) ≡ cond sound taken (refused (because soundness))
     by_soundness =
         after_taken (areas_lent n (length top) (length bits)) (are_filter (config_at n) (record_at n t) top bits ∷ [])
@@ -161,22 +160,22 @@ module _ (n : ℕ) (t : Tally) (top bits : List ℕ) where
         (sym (areas_told n (length top) (length bits) s q).1) ∙ sym h
 
     pub filter_unsound : false ≡ is_filter s.top s.blocks top bits t.count t.boundary
-        → Refused (refusal (because soundness)) ≡ filter_of n t top bits
+        → Err (refusal (because soundness)) ≡ filter_of n t top bits
     unfolding filter_of
     filter_unsound h = judged_not n (because soundness) refl (by_soundness ∙ ap (λ (b : Bool). cond b taken (refused (because soundness))) (is_sound false h))
 
-    pub filter_fits : true ≡ is_filter s.top s.blocks top bits t.count t.boundary → Known s ≡ filter_of n t top bits
+    pub filter_fits : true ≡ is_filter s.top s.blocks top bits t.count t.boundary → Ok s ≡ filter_of n t top bits
     unfolding filter_of
     filter_fits h =
         judged_taken n (areas_told n (length top) (length bits) s q).1
         (by_soundness ∙ ap (λ (b : Bool). cond b taken (refused (because soundness))) (is_sound true h))
 
   -- what the answer tells
-  pub filter_told : (s : Sizes) → filter_of n t top bits ≡ Known s → (verdict (filter_lent (record_at n t) top bits) ≡ taken) × (s ≡ sizes_at n)
+  pub filter_told : (s : Sizes) → filter_of n t top bits ≡ Ok s → (verdict (filter_lent (record_at n t) top bits) ≡ taken) × (s ≡ sizes_at n)
   unfolding filter_of
   filter_told s q = judged_known n (verdict (filter_lent (record_at n t) top bits)) s q
 
-  pub filter_refused : (r : Refusal) → filter_of n t top bits ≡ Refused r
+  pub filter_refused : (r : Refusal) → filter_of n t top bits ≡ Err r
       → (k : Cause) × (verdict (filter_lent (record_at n t) top bits) ≡ refused k) × (r ≡ refusal k)
   unfolding filter_of
   filter_refused r q = judged_refused n (verdict (filter_lent (record_at n t) top bits)) r q
@@ -226,31 +225,31 @@ module _ (n : ℕ) (t : Tally) (top bits : List ℕ) (o : ℕ) (u : Tally) (top2
       ∙ rooms o (length top2) (length bits2) v₂)
       ∙ rooms n (length top) (length bits) v₃)
 
-  pub two_first : (r : Refusal) → sizes_of n ≡ Refused r → Refused (refusal (because configuration)) ≡ two_of n t top bits o u top2 bits2 x y
+  pub two_first : (r : Refusal) → sizes_of n ≡ Err r → Err r ≡ two_of n t top bits o u top2 bits2 x y
   unfolding two_of
   two_first r q =
       let a : known n ≡ false = (unknown_of n r q).0 in
       let v : lent ≡ refused (because configuration) = chained ∙ rw a in
-      judged_not n (because configuration) refl v
+      judged_not n (because configuration) (unknown_of n r q).1 v
 
-  pub two_second : (s : Sizes) → sizes_of n ≡ Known s → (r : Refusal) → sizes_of o ≡ Refused r
-      → Refused (refusal (because configuration)) ≡ two_of n t top bits o u top2 bits2 x y
+  pub two_second : (s : Sizes) → sizes_of n ≡ Ok s → (r : Refusal) → sizes_of o ≡ Err r
+      → Err r ≡ two_of n t top bits o u top2 bits2 x y
   unfolding two_of
   two_second s q r q₂ =
       let a : known n ≡ true = (known_of n s q).0 in
       let b : known o ≡ false = (unknown_of o r q₂).0 in
       let v : lent ≡ refused (because configuration) = chained ∙ rw (a, b) in
-      judged_not n (because configuration) refl v
+      judged_not n (because configuration) (unknown_of o r q₂).1 v
 
   -- after 1: what each test told, of the sizes that were answered
-  pub two_rest : (s s₂ : Sizes) → sizes_of n ≡ Known s → sizes_of o ≡ Known s₂ → (p r w v z e : Bool)
+  pub two_rest : (s s₂ : Sizes) → sizes_of n ≡ Ok s → sizes_of o ≡ Ok s₂ → (p r w v z e : Bool)
       → p ≡ roomy s (length top) (length bits)
       → r ≡ roomy s₂ (length top2) (length bits2)
       → w ≡ roomy s x y
       → v ≡ is_filter s.top s.blocks top bits t.count t.boundary
       → z ≡ is_filter s₂.top s₂.blocks top2 bits2 u.count u.boundary
       → e ≡ eqb n o
-      → answer (chain true true p r w v z e) (λ k. Refused (refusal k)) (Known s) ≡ two_of n t top bits o u top2 bits2 x y
+      → answer (chain true true p r w v z e) (λ k. Err (refusal k)) (Ok s) ≡ two_of n t top bits o u top2 bits2 x y
   unfolding two_of
   two_rest s s₂ q q₂ p r w v z e hp hr hw hv hz he =
       let a = known_of n s q in
@@ -263,14 +262,14 @@ module _ (n : ℕ) (t : Tally) (top bits : List ℕ) (o : ℕ) (u : Tally) (top2
       let v' : sound1 ≡ v = ap (λ (k : Sizes). is_filter k.top k.blocks top bits t.count t.boundary) (sym a.1) ∙ sym hv in
       let z' : sound2 ≡ z = ap (λ (k : Sizes). is_filter k.top k.blocks top2 bits2 u.count u.boundary) (sym b.1) ∙ sym hz in
       let l : chain true true p r w v z e ≡ lent = sym (chained ∙ rw (a.0, b.0, p', r', w', v', z', sym he)) in
-      ap₂ (λ (k : Sizes) (c : Verdict). answer c (λ i. Refused (refusal i)) (Known k)) a.1 l
+      ap₂ (λ (k : Sizes) (c : Verdict). answer c (λ i. Err (refusal i)) (Ok k)) a.1 l
 
   -- what the answer tells
-  pub two_told : (s : Sizes) → two_of n t top bits o u top2 bits2 x y ≡ Known s → (lent ≡ taken) × (s ≡ sizes_at n)
+  pub two_told : (s : Sizes) → two_of n t top bits o u top2 bits2 x y ≡ Ok s → (lent ≡ taken) × (s ≡ sizes_at n)
   unfolding two_of
   two_told s q = judged_known n lent s q
 
-  pub two_refused : (r : Refusal) → two_of n t top bits o u top2 bits2 x y ≡ Refused r → (k : Cause) × (lent ≡ refused k) × (r ≡ refusal k)
+  pub two_refused : (r : Refusal) → two_of n t top bits o u top2 bits2 x y ≡ Err r → (k : Cause) × (lent ≡ refused k) × (r ≡ refusal k)
   unfolding two_of
   two_refused r q = judged_refused n lent r q
 
@@ -329,42 +328,42 @@ two_alone n t top bits o u top2 bits2 =
 module _ (mask size : ℕ) where
   -- what the tests tell, and what is answered
   mask_is : (a b : Bool) → size_fits size ≡ a → mask_fits mask size ≡ b
-      → answer (cond a (cond b taken (refused (because mask_bits))) (refused (because mask_size))) (λ r. masks.Refused (refusal r)) masks.Fits ≡ mask_of mask size
+      → answer (cond a (cond b taken (refused (because mask_bits))) (refused (because mask_size))) (λ r. Err (refusal r)) passing ≡ mask_of mask size
   unfolding mask_of
   mask_is a b ha hb =
-      sym (ap₂ (λ (x y : Bool). answer (cond x (cond y taken (refused (because mask_bits))) (refused (because mask_size))) (λ r. masks.Refused (refusal r)) masks.Fits) ha hb)
+      sym (ap₂ (λ (x y : Bool). answer (cond x (cond y taken (refused (because mask_bits))) (refused (because mask_size))) (λ r. Err (refusal r)) passing) ha hb)
 
-  pub mask_none : size < 1 → masks.Refused (refusal (because mask_size)) ≡ mask_of mask size
+  pub mask_none : size < 1 → Err (refusal (because mask_size)) ≡ mask_of mask size
   mask_none h = mask_is false (mask_fits mask size) (ap (λ (b : Bool). b && leb size largest_mask_size) (lt-leb 1 size h)) refl
 
   module _ (some : 1 ≤ size) where
     fits : (b : Bool) → leb size largest_mask_size ≡ b → size_fits size ≡ b
     fits b h = ap₂ (λ (x y : Bool). x && y) (le-leb 1 size some) h
 
-    pub mask_long : largest_mask_size < size → masks.Refused (refusal (because mask_size)) ≡ mask_of mask size
+    pub mask_long : largest_mask_size < size → Err (refusal (because mask_size)) ≡ mask_of mask size
     mask_long h = mask_is false (mask_fits mask size) (fits false (lt-leb size largest_mask_size h)) refl
 
     module _ (few : size ≤ largest_mask_size) where
-      pub mask_past : (mask / 2 ^ size ≡ 0 → ⊥) → masks.Refused (refusal (because mask_bits)) ≡ mask_of mask size
+      pub mask_past : (mask / 2 ^ size ≡ 0 → ⊥) → Err (refusal (because mask_bits)) ≡ mask_of mask size
       mask_past h = mask_is true false (fits true (le-leb size largest_mask_size few)) (go (dec_lt mask (2 ^ size)))
         where
           go : Dec (mask < 2 ^ size) → mask_fits mask size ≡ false
           go (yes l) = absurd (h (div-eq_of_lt l))
           go (no l) = le-ltb mask (2 ^ size) (omega arith)
 
-      pub mask_fits_lem : mask / 2 ^ size ≡ 0 → masks.Fits ≡ mask_of mask size
+      pub mask_fits_lem : mask / 2 ^ size ≡ 0 → passing ≡ mask_of mask size
       mask_fits_lem h =
           mask_is true true (fits true (le-leb size largest_mask_size few))
           (lt-ltb mask (2 ^ size) (omega (arith, h, lt-div-mul-add {a = mask} (pow_pos size), ap (λ (x : ℕ). x * 2 ^ size) h)))
 
   -- what the answer tells
-  pub mask_told_lem : mask_of mask size ≡ masks.Fits
+  pub mask_told_lem : mask_of mask size ≡ passing
       → (verdict (is_mask mask size) ≡ taken) × (1 ≤ size) × (size ≤ largest_mask_size) × (mask < 2 ^ size)
   unfolding mask_of
   mask_told_lem q = go (leb 1 size) (leb size largest_mask_size) (mask_fits mask size) refl refl refl q
     where
       go : (a b d : Bool) → leb 1 size ≡ a → leb size largest_mask_size ≡ b → mask_fits mask size ≡ d
-          → answer (cond (a && b) (cond d taken (refused (because mask_bits))) (refused (because mask_size))) (λ r. masks.Refused (refusal r)) masks.Fits ≡ masks.Fits
+          → answer (cond (a && b) (cond d taken (refused (because mask_bits))) (refused (because mask_size))) (λ r. Err (refusal r)) passing ≡ passing
           → (cond (a && b) (cond d taken (refused (because mask_bits))) (refused (because mask_size)) ≡ taken) × (1 ≤ size) × (size ≤ largest_mask_size) × (mask < 2 ^ size)
       go true true true x y z e = (refl, leb-true _ _ x, leb-true _ _ y, ltb-true _ _ z)
       go true true false x y z e =
@@ -377,12 +376,12 @@ module _ (mask size : ℕ) where
           let t : ◌≡◌ {A = ℕ} 0 1 = cc in
           absurd (omega arith)
 
-  pub mask_refused : (r : Refusal) → mask_of mask size ≡ masks.Refused r
+  pub mask_refused : (r : Refusal) → mask_of mask size ≡ Err r
       → (k : Cause) × (verdict (is_mask mask size) ≡ refused k) × (r ≡ refusal k)
   unfolding mask_of
   mask_refused r q = go (verdict (is_mask mask size)) q
     where
-      go : (v : Verdict) → answer v (λ i. masks.Refused (refusal i)) masks.Fits ≡ masks.Refused r
+      go : (v : Verdict) → answer v (λ i. Err (refusal i)) passing ≡ Err r
           → (k : Cause) × (v ≡ refused k) × (r ≡ refusal k)
       go taken e =
           let z : ◌≡◌ {A = ℕ} 0 1 = cc in

@@ -9,23 +9,15 @@ ghost use Rattle.bitvec.specs.Parts.{Room};
 ghost use Rattle.judge.specs.Judging.{Tells, TopFits, roomy, areas_of, filter_of, two_of, mask_of};
 
 use bitvec::Tally;
-use sizes::{Refusal, Sizes, SizesAnswer};
-
-#[derive(Clone, Copy)]
-pub enum MaskAnswer {
-    Fits,
-    Refused(Refusal),
-}
+use sizes::{Refusal, Sizes};
 
 // Whether every bucket listed is below the limit. No bucket ends the loop, so that several can be compared at once.
 fn cells_below(list: &[u32], limit: u32) -> bool
     ensures { result ≡ all_below limit list.now }
 {
     let mut above = false;
-    let mut i = 0;
-    while i < list.len() {
-        above = above | (list[i] >= limit);
-        i += 1;
+    for &bucket in list {
+        above |= bucket >= limit;
     }
     !above
 }
@@ -34,75 +26,71 @@ fn cells_below(list: &[u32], limit: u32) -> bool
 pub fn all_below(list: &[u32], limit: usize) -> bool
     ensures { result ≡ all_below limit list.now }
 {
-    if 4294967296 <= limit {
-        return true;
+    match u32::try_from(limit) {
+        Ok(limit) => cells_below(list, limit),
+        Err(_) => true,
     }
-    cells_below(list, limit as u32)
 }
 
 // ---- 8
 
-// Whether the first cells fall, from below the limit.
-fn falls(top: &[u32], count: usize, limit: usize) -> bool
-    requires { count ≤ length top.now }
-    ensures { Tells result (Falls limit (take count top.now)) }
+// Whether the cells fall, from below the limit.
+fn falls(top: &[u32], limit: usize) -> bool
+    ensures { Tells result (Falls limit top.now) }
 {
     let mut last = limit;
-    let mut i = 0;
-    while i < count {
-        let bucket = buckets::into_usize(top[i]);
+    for &cell in top {
+        let bucket = buckets::into_usize(cell);
         if bucket >= last {
             return false;
         }
         last = bucket;
-        i += 1;
     }
     true
 }
 
 // Whether the top area is that of a filter with so many entries.
-fn top_fits(top: &[u32], count: usize, m: usize, limit: usize) -> bool
-    requires { m ≤ length top.now }
-    ensures { Tells result (TopFits m limit top.now count) }
+fn top_fits(top: &[u32], count: usize, limit: usize) -> bool
+    ensures { Tells result (TopFits (length top.now) limit top.now count) }
 {
-    if m < count {
+    if top.len() < count {
         return false;
     }
-    if !falls(top, count, limit) {
+    if !falls(&top[..count], limit) {
         return false;
     }
-    bitvec::or_cells(top, count, m) == 0
+    bitvec::or(&top[count..]) == 0
 }
 
-// Whether no bit of the first k blocks stands at or above the boundary.
-pub fn bits_fit(blocks: &[u64], boundary: usize, k: usize) -> bool
-    requires { k ≤ length blocks.now }
-    ensures { Tells result (Empty (held blocks.now) boundary (64 * k)) }
+// Whether no bit of the blocks stands at or above the boundary.
+pub fn bits_fit(blocks: &[u64], boundary: usize) -> bool
+    ensures { Tells result (Empty (held blocks.now) boundary (64 * length blocks.now)) }
 {
     let i = buckets::into_index(boundary);
-    if k <= i {
+    if blocks.len() <= i {
         return true;
     }
     let first = blocks[i] >> buckets::into_bit(boundary);
-    let rest = bitvec::or_blocks(blocks, i + 1, k);
+    let rest = bitvec::or(&blocks[i + 1..]);
     (first | rest) == 0
 }
 
 // Whether areas and tally are some set's filter. With its unused cells 0, the top area's last cell is the boundary, full or not;
 // blocks below the boundary may be any.
+// `Room` stays a clause: document 01 lends the two areas apart.
 fn is_filter(top: &[u32], blocks: &[u64], tally: Tally, m: usize, k: usize) -> bool
     requires { Room m k top.now blocks.now }
     ensures { result ≡ is_filter m k top.now blocks.now tally.count tally.boundary }
 {
     let boundary = tally.boundary;
-    if !top_fits(top, tally.count, m, 64 * k) {
+    if !top_fits(&top[..m], tally.count, 64 * k) {
         return false;
     }
     let last = m - 1;
     if buckets::into_usize(top[last]) != boundary {
         return false;
     }
-    bits_fit(blocks, boundary, k)
+    bits_fit(&blocks[..k], boundary)
 }
 
 // ---- what a call is lent
@@ -115,33 +103,25 @@ fn has_room(s: Sizes, top: usize, blocks: usize) -> bool
 }
 
 // 1, 3: the sizes, where slices of these lengths have room for the areas.
-pub fn areas(config: u64, top: usize, blocks: usize) -> SizesAnswer
+pub fn areas(config: u64, top: usize, blocks: usize) -> Result<Sizes, Refusal>
     ensures { result ≡ areas_of config top blocks }
 {
-    match sizes::sizes_of(config) {
-        SizesAnswer::Known(s) => {
-            if !has_room(s, top, blocks) {
-                return SizesAnswer::Refused(sizes::ROOM);
-            }
-            SizesAnswer::Known(s)
-        }
-        SizesAnswer::Refused(r) => SizesAnswer::Refused(r),
+    let s = sizes::sizes_of(config)?;
+    if !has_room(s, top, blocks) {
+        return Err(Refusal::Room);
     }
+    Ok(s)
 }
 
 // 1, 3, 8: the sizes, where a filter was lent.
-pub fn filter(config: u64, tally: Tally, top: &[u32], blocks: &[u64]) -> SizesAnswer
+pub fn filter(config: u64, tally: Tally, top: &[u32], blocks: &[u64]) -> Result<Sizes, Refusal>
     ensures { result ≡ filter_of config tally top.now blocks.now }
 {
-    match areas(config, top.len(), blocks.len()) {
-        SizesAnswer::Known(s) => {
-            if !is_filter(top, blocks, tally, s.top, s.blocks) {
-                return SizesAnswer::Refused(sizes::SOUNDNESS);
-            }
-            SizesAnswer::Known(s)
-        }
-        SizesAnswer::Refused(r) => SizesAnswer::Refused(r),
+    let s = areas(config, top.len(), blocks.len())?;
+    if !is_filter(top, blocks, tally, s.top, s.blocks) {
+        return Err(Refusal::Soundness);
     }
+    Ok(s)
 }
 
 // 1, 3, 8, 9: the sizes, where two filters of one configuration were lent, beside slices of the lengths `to_top` and `to_blocks` for
@@ -157,49 +137,45 @@ pub fn two_filters(
     blocks2: &[u64],
     to_top: usize,
     to_blocks: usize,
-) -> SizesAnswer
+) -> Result<Sizes, Refusal>
     ensures { result ≡ two_of config tally top.now blocks.now
         config2 tally2 top2.now blocks2.now to_top to_blocks }
 {
-    let SizesAnswer::Known(s) = sizes::sizes_of(config) else {
-        return SizesAnswer::Refused(sizes::CONFIGURATION);
-    };
-    let SizesAnswer::Known(o) = sizes::sizes_of(config2) else {
-        return SizesAnswer::Refused(sizes::CONFIGURATION);
-    };
+    let s = sizes::sizes_of(config)?;
+    let o = sizes::sizes_of(config2)?;
     if !has_room(s, top.len(), blocks.len()) {
-        return SizesAnswer::Refused(sizes::ROOM);
+        return Err(Refusal::Room);
     }
     if !has_room(o, top2.len(), blocks2.len()) {
-        return SizesAnswer::Refused(sizes::ROOM);
+        return Err(Refusal::Room);
     }
     if !has_room(s, to_top, to_blocks) {
-        return SizesAnswer::Refused(sizes::ROOM);
+        return Err(Refusal::Room);
     }
     if !is_filter(top, blocks, tally, s.top, s.blocks) {
-        return SizesAnswer::Refused(sizes::SOUNDNESS);
+        return Err(Refusal::Soundness);
     }
     if !is_filter(top2, blocks2, tally2, o.top, o.blocks) {
-        return SizesAnswer::Refused(sizes::SOUNDNESS);
+        return Err(Refusal::Soundness);
     }
     if config != config2 {
-        return SizesAnswer::Refused(sizes::LIKENESS);
+        return Err(Refusal::Likeness);
     }
-    SizesAnswer::Known(s)
+    Ok(s)
 }
 
 // 6, 7
-pub fn mask(mask: u64, size: usize) -> MaskAnswer
+pub fn mask(mask: u64, size: usize) -> Result<(), Refusal>
     ensures { result ≡ mask_of mask size }
 {
     if size < 1 {
-        return MaskAnswer::Refused(sizes::MASK_SIZE);
+        return Err(Refusal::MaskSize);
     }
     if 63 < size {
-        return MaskAnswer::Refused(sizes::MASK_SIZE);
+        return Err(Refusal::MaskSize);
     }
     if mask >> size != 0 {
-        return MaskAnswer::Refused(sizes::MASK_BITS);
+        return Err(Refusal::MaskBits);
     }
-    MaskAnswer::Fits
+    Ok(())
 }

@@ -17,7 +17,6 @@ use Rattle.sets.proofs.Verdicts.{after_taken, after_refused, all_pass, passed}
 use Rattle.sizes.specs.Sizes.{sizes_at, refusal}
 use Rattle.sizes.specs.declared.Sizes.{Sizes}
 use Rattle.sizes.specs.declared.Refusal.{Refusal}
-use Rattle.sizes.specs.declared.SizesAnswer.TheVariants.{Known, Refused}
 use Rattle.bitvec.specs.Parts.{Room}
 use Rattle.judge.specs.Judging as filters
 use Rattle.judge.proofs.Verdicts as filter-laws
@@ -26,6 +25,7 @@ use Rattle.pending.specs.Stages.{Staged}
 use Rattle.pending.specs.declared.Stage.{Stage}
 use Rattle.pending.proofs.Sound.{sound_staged}
 use Rattle.judge_builder.specs.Judging.{record_at, areas_of, builder_of, target_of}
+use Rattle.std.specs.Prelude.{Ok, Err}
 
 -- ---- 1, 3
 
@@ -45,11 +45,11 @@ module _ (n x y : ℕ) where
       (half (config_at n).M x)
 
   -- what the answer tells: the tests pass, and these are the sizes
-  pub areas_told : (s : Sizes) → areas_of n x y ≡ Known s → (verdict (builder_areas n x y) ≡ taken) × (s ≡ sizes_at n)
+  pub areas_told : (s : Sizes) → areas_of n x y ≡ Ok s → (verdict (builder_areas n x y) ≡ taken) × (s ≡ sizes_at n)
   unfolding areas_of
   areas_told s q = judged_known n (verdict (builder_areas n x y)) s q
 
-  pub areas_refused : (r : Refusal) → areas_of n x y ≡ Refused r → (k : Cause) × (verdict (builder_areas n x y) ≡ refused k) × (r ≡ refusal k)
+  pub areas_refused : (r : Refusal) → areas_of n x y ≡ Err r → (k : Cause) × (verdict (builder_areas n x y) ≡ refused k) × (r ≡ refusal k)
   unfolding areas_of
   areas_refused r q = judged_refused n (verdict (builder_areas n x y)) r q
 
@@ -73,7 +73,7 @@ room_of n pending bits v =
       small = omega (arith, (line_at n).small, whole_blocks (config_at n) s);
     }
 
-pub areas_room : (n : ℕ) (pending bits : List ℕ) (s : Sizes) → areas_of n (length pending) (length bits) ≡ Known s
+pub areas_room : (n : ℕ) (pending bits : List ℕ) (s : Sizes) → areas_of n (length pending) (length bits) ≡ Ok s
     → Room (2 * s.top) s.blocks pending bits
 areas_room n pending bits s q =
     let a = areas_told n (length pending) (length bits) s q in
@@ -98,20 +98,20 @@ module _ (n : ℕ) (st : Stage) (pending bits : List ℕ) where
   unfolding sizes_at
   by_sizes = ap (λ (w : ℕ). is_builder (config_at n).M w pending bits st.count st.split) (whole_blocks (config_at n) (line_at n).sound)
 
-  pub builder_no_areas : (r : Refusal) → areas_of n (length pending) (length bits) ≡ Refused r → Refused r ≡ builder_of n st pending bits
+  pub builder_no_areas : (r : Refusal) → areas_of n (length pending) (length bits) ≡ Err r → Err r ≡ builder_of n st pending bits
   unfolding builder_of
   builder_no_areas r q =
       let a = areas_refused n (length pending) (length bits) r q in
-      refuses (λ x. Refused x) (Known (sizes_at n)) (
+      refuses (λ x. Err x) (Ok (sizes_at n)) (
         a.0,
         after_refused (builder_areas n (length pending) (length bits)) (sound_test ∷ []) a.1,
         a.2,
       )
 
   -- after 1 and 3: what test 8 told, of the sizes that were answered
-  pub builder_rest : (s : Sizes) → areas_of n (length pending) (length bits) ≡ Known s
+  pub builder_rest : (s : Sizes) → areas_of n (length pending) (length bits) ≡ Ok s
       → (b : Bool) → b ≡ is_builder s.top (64 * s.blocks) pending bits st.count st.split
-      → answer (cond b taken (refused (because soundness))) (λ k. Refused (refusal k)) (Known s) ≡ builder_of n st pending bits
+      → answer (cond b taken (refused (because soundness))) (λ k. Err (refusal k)) (Ok s) ≡ builder_of n st pending bits
   unfolding builder_of
   builder_rest s q b h =
       let a = areas_told n (length pending) (length bits) s q in
@@ -120,15 +120,15 @@ module _ (n : ℕ) (st : Stage) (pending bits : List ℕ) where
       let v : cond b taken (refused (because soundness)) ≡ verdict (builder_lent (record_at n st) pending bits) =
       ap (λ (x : Bool). cond x taken (refused (because soundness))) e
       ∙ sym (after_taken (builder_areas n (length pending) (length bits)) (sound_test ∷ []) a.0) in
-      ap₂ (λ (k : Sizes) (w : Verdict). answer w (λ i. Refused (refusal i)) (Known k)) a.1 v
+      ap₂ (λ (k : Sizes) (w : Verdict). answer w (λ i. Err (refusal i)) (Ok k)) a.1 v
 
   -- what the answer tells
-  pub builder_told : (s : Sizes) → builder_of n st pending bits ≡ Known s
+  pub builder_told : (s : Sizes) → builder_of n st pending bits ≡ Ok s
       → (verdict (builder_lent (record_at n st) pending bits) ≡ taken) × (s ≡ sizes_at n)
   unfolding builder_of
   builder_told s q = judged_known n (verdict (builder_lent (record_at n st) pending bits)) s q
 
-  pub builder_refused : (r : Refusal) → builder_of n st pending bits ≡ Refused r
+  pub builder_refused : (r : Refusal) → builder_of n st pending bits ≡ Err r
       → (k : Cause) × (verdict (builder_lent (record_at n st) pending bits) ≡ refused k) × (r ≡ refusal k)
   unfolding builder_of
   builder_refused r q = judged_refused n (verdict (builder_lent (record_at n st) pending bits)) r q
@@ -177,13 +177,13 @@ module _ (n : ℕ) (st : Stage) (pending bits : List ℕ) (top blk : ℕ) where
   after_known : known n ≡ true → verdict (builder_lent (record_at n st) pending bits) ≡ first_failing rest
   after_known k = ap (λ (b : Bool). cond b (first_failing rest) (refused (because configuration))) k
 
-  pub target_no_areas : (r : Refusal) → filters.areas_of n top blk ≡ Refused r → Refused r ≡ target_of n st pending bits top blk
+  pub target_no_areas : (r : Refusal) → filters.areas_of n top blk ≡ Err r → Err r ≡ target_of n st pending bits top blk
   unfolding target_of
   target_no_areas r q =
       let a = filter-laws.areas_refused n top blk r q in
-      refuses (λ x. Refused x) (Known (sizes_at n)) (a.0, filter_first ∙ after_refused (areas_lent n top blk) rest a.1, a.2)
+      refuses (λ x. Err x) (Ok (sizes_at n)) (a.0, filter_first ∙ after_refused (areas_lent n top blk) rest a.1, a.2)
 
-  pub target_rest : (s : Sizes) → filters.areas_of n top blk ≡ Known s → builder_of n st pending bits ≡ target_of n st pending bits top blk
+  pub target_rest : (s : Sizes) → filters.areas_of n top blk ≡ Ok s → builder_of n st pending bits ≡ target_of n st pending bits top blk
   unfolding builder_of target_of
   target_rest s q =
       let a = filter-laws.areas_told n top blk s q in
@@ -191,11 +191,11 @@ module _ (n : ℕ) (st : Stage) (pending bits : List ℕ) (top blk : ℕ) where
       ap (filters.judged n) (after_known k.0 ∙ sym (filter_first ∙ after_taken (areas_lent n top blk) rest a.0))
 
   -- what the answer tells
-  pub target_told : (s : Sizes) → target_of n st pending bits top blk ≡ Known s → (lent ≡ taken) × (s ≡ sizes_at n)
+  pub target_told : (s : Sizes) → target_of n st pending bits top blk ≡ Ok s → (lent ≡ taken) × (s ≡ sizes_at n)
   unfolding target_of
   target_told s q = judged_known n lent s q
 
-  pub target_refused : (r : Refusal) → target_of n st pending bits top blk ≡ Refused r → (k : Cause) × (lent ≡ refused k) × (r ≡ refusal k)
+  pub target_refused : (r : Refusal) → target_of n st pending bits top blk ≡ Err r → (k : Cause) × (lent ≡ refused k) × (r ≡ refusal k)
   unfolding target_of
   target_refused r q = judged_refused n lent r q
 

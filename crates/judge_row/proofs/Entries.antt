@@ -15,7 +15,7 @@ use Rattle.sets.specs.Row.{little, numbers, place, rising}
 use Rattle.sets.proofs.Bytes.{length_numbers}
 use Rattle.bitchunks.proofs.Rows.{entry_at}
 use Rattle.judge_row.specs.Judging.{placed}
-use Rattle.judge_row.specs.declared.Place.TheVariants.{Nowhere, At}
+use Rattle.std.specs.Prelude.{None, Some}
 
 -- ---- one turn
 
@@ -77,7 +77,7 @@ module _ (limit w count : ℕ) (row : List ℕ) (last i : ℕ) (t : Falling limi
         ∙ ap (rising w (i * w) last) (seen w count row i h x e)
         ∙ ap (λ (b : Bool). cond b (rising w (i * w + w) x (drop (i + 1) (numbers w count row))) (place (i * w))) q
 
-    pub fall_at : last ≤ x → At (i * w) ≡ placed (rising w 0 limit (numbers w count row))
+    pub fall_at : last ≤ x → Some (i * w) ≡ placed (rising w 0 limit (numbers w count row))
     fall_at l = sym (ap placed (turned (le-ltb x last l)))
 
     pub fall_turn : x < last → Falling limit w count row x (i + 1)
@@ -85,7 +85,7 @@ module _ (limit w count : ℕ) (row : List ℕ) (last i : ℕ) (t : Falling limi
         let a : i * w + w ≡ (i + 1) * w = omega (arith, add-mul i 1 w, one-mul w) in
         turned (lt-ltb x last l) ∙ ap (λ (b : ℕ). rising w b x (drop (i + 1) (numbers w count row))) a
 
-  pub fall_end : count ≤ i → Nowhere ≡ placed (rising w 0 limit (numbers w count row))
+  pub fall_end : count ≤ i → None ≡ placed (rising w 0 limit (numbers w count row))
   fall_end h = sym (ap placed (t ∙ ap (rising w (i * w) last) (none_left w count row i h)))
 
 -- an entry's place is within the row

@@ -3,7 +3,7 @@ use mathlib.Core.Path.{◌≡◌, sym, ap, ap₂, ◌∙◌, subst}
 use mathlib.Core.Bool.{Bool, true, false, cond, ◌&&◌, ◌||◌}
 use mathlib.Core.List.{List, [], ◌∷◌}
 use Prim.Native.Nat.{ℕ, zero, suc, ◌+◌, ◌-◌, ◌*◌, ◌/◌, ◌%◌, ◌^◌, ◌≤◌, ◌<◌}
-use native.Mathlib.Nat.{div-eq_of_lt, lt_of_lt_of_le}
+use native.Mathlib.Nat.{lt_of_lt_of_le}
 use native.Mathlib.Decide.{dec_lt}
 use native.Mathlib.Omega.{arith}
 use lib.Dec.{eqb}
@@ -19,7 +19,10 @@ use Rattle.sets.proofs.Tests.{and_intro}
 use Rattle.sets.proofs.Words.{digit_past, digit_shift, held_block}
 use Rattle.unaligned.proofs.Runs.{number_read}
 use Rattle.judge_row.specs.Judging.{NextDigit, placed}
-use Rattle.judge_row.specs.declared.Place.TheVariants.{Nowhere, At}
+use Rattle.std.specs.Prelude.{None, Some}
+use Rattle.std.specs.Int.{trailing_zeros, w64}
+use Rattle.std.proofs.lemmas.Nat.{shr_le}
+use Rattle.std.proofs.lemmas.Nat.Bits.{bit_at-trailing_zeros}
 
 -- ---- spare_fits
 
@@ -31,59 +34,42 @@ spare_tells edge byte x n e = ap (eqb byte) e ∙ sym (ap (λ (b : Bool). b || e
 
 -- ---- lowest_above
 
--- no place from `bit` up to `at` is set, and one from there on is
-pub record Climbs (block bit at : ℕ) : Type 0 where
-  pub above : bit < at
-  pub left : 1 ≤ block / 2 ^ at
-  pub between : (q : ℕ) → bit < q → q < at → digit block q ≡ false
-
-halved : (block at : ℕ) → 2 ≤ block / 2 ^ at → 1 ≤ block / 2 ^ (at + 1)
-halved block at h = omega (arith, shr-shr block at 1)
-
-pub climb_start : (block bit : ℕ) → 2 ≤ block / 2 ^ bit → Climbs block bit (bit + 1)
-climb_start block bit h = record { above = omega arith; left = halved block bit h; between = λ q a b. absurd (omega arith) }
-
-pub climb_turn : {block bit at : ℕ} → Climbs block bit at → block / 2 ^ at % 2 ≡ 0 → Climbs block bit (at + 1)
-unfolding digit
-climb_turn {block} {bit} {at} c e =
-    record {
-      above = omega (arith, c.above);
-      left = halved block at (omega (arith, c.left));
-      between = λ q a b. go q a b (dec_lt q at);
-    }
+-- a digit that is set stands within the block
+set_small : (block q : ℕ) → block < 2 ^ 64 → digit block q ≡ true → q < 64
+set_small block q f h = go (dec_lt q 64)
   where
-    go : (q : ℕ) → bit < q → q < at + 1 → Dec (q < at) → eqb (block / 2 ^ q % 2) 1 ≡ false
-    go q a b (yes l) = c.between q a l
-    go q a b (no l) =
-        let s : q ≡ at = omega arith in
-        subst (λ (x : ℕ). eqb (block / 2 ^ x % 2) 1 ≡ false) (sym s) (ap (λ (x : ℕ). eqb x 1) e)
-
-pub climb_small : {block bit at : ℕ} → block < 2 ^ 64 → Climbs block bit at → at < 64
-climb_small {block} {bit} {at} f c = go (dec_lt at 64)
-  where
-    go : Dec (at < 64) → at < 64
+    go : Dec (q < 64) → q < 64
     go (yes l) = l
     go (no l) =
-        let z : block / 2 ^ at ≡ 0 = div-eq_of_lt (lt_of_lt_of_le f (pow_mono {i = 64} {j = at} (omega arith))) in
-        absurd (omega (arith, c.left))
+        let z : digit block q ≡ false = digit_past block q (lt_of_lt_of_le f (pow_mono {i = 64} {j = q} (omega arith))) in
+        let e : ◌≡◌ {A = ℕ} 0 1 = cc in
+        absurd (omega arith)
 
-pub climb_end : {block bit at : ℕ} → block < 2 ^ 64 → Climbs block bit at → (block / 2 ^ at % 2 ≡ 0 → ⊥) → NextDigit block bit at
+-- what is above `bit`, counted from there: its lowest 1
+pub lowest_is_next : (block bit : ℕ) → block < 2 ^ 64 → 2 ≤ block / 2 ^ bit
+    → NextDigit block bit (bit + 1 + trailing_zeros w64 (block / 2 ^ bit / 2 ^ 1))
 unfolding digit
-climb_end {block} {bit} {at} f c n =
+lowest_is_next block bit f h =
+    let n : ℕ = block / 2 ^ bit / 2 ^ 1 in
+    let t = bit_at-trailing_zeros w64 n (omega arith) (omega (arith, shr_le block bit)) in
+    let here : (i : ℕ) → n / 2 ^ i ≡ block / 2 ^ (bit + 1 + i) =
+    λ i. ap (λ (x : ℕ). x / 2 ^ i) (shr-shr block bit 1) ∙ shr-shr block (bit + 1) i in
+    let set : digit block (bit + 1 + trailing_zeros w64 n) ≡ true =
+    eq-eqb (block / 2 ^ (bit + 1 + trailing_zeros w64 n) % 2) 1 (ap (λ (x : ℕ). x % 2) (sym (here (trailing_zeros w64 n))) ∙ t.1) in
     record {
-      above = c.above;
-      small = climb_small f c;
-      is_set = eq-eqb (block / 2 ^ at % 2) 1 (omega arith);
-      between = c.between;
+      above = omega arith;
+      small = set_small block (bit + 1 + trailing_zeros w64 n) f set;
+      is_set = set;
+      between = λ q a b. ap (digit block) (omega arith) ∙ ap (λ (x : ℕ). eqb (x % 2) 1) (sym (here (q - (bit + 1)))) ∙ ap (λ (x : ℕ). eqb x 1) (t.2 (q - (bit + 1)) (omega arith));
     }
 
 -- ---- high_place
 
 module _ (at edge n : ℕ) (S : Set) where
-  clear_nowhere : Empty S edge (64 * n) → Nowhere ≡ placed (lowest at (members (onward edge S) (64 * n)))
+  clear_nowhere : Empty S edge (64 * n) → None ≡ placed (lowest at (members (onward edge S) (64 * n)))
   clear_nowhere h = sym (ap (λ (l : List ℕ). placed (lowest at l)) (onward_none edge S (64 * n) h))
 
-  pub no_blocks : edge ≡ 0 → n ≡ blocks_for edge → Nowhere ≡ placed (lowest at (members (onward edge S) (64 * n)))
+  pub no_blocks : edge ≡ 0 → n ≡ blocks_for edge → None ≡ placed (lowest at (members (onward edge S) (64 * n)))
   no_blocks e k = clear_nowhere (λ p a b. absurd (omega arith))
 
 lowest_more : (at q b : ℕ) (l : List ℕ) → lowest at l ≡ place b → lowest at (q ∷ l) ≡ place b
@@ -159,16 +145,16 @@ module _ (row : List ℕ) (at n edge w : ℕ) (k : n ≡ blocks_for edge) (some 
   last_is : w ≡ get_or blocks_in (n - 1) 0
   last_is = number_read 8 n at row (at + 8 * (n - 1)) (omega arith) (omega arith) r
 
-  pub high_none : w / 2 ^ highest < 2 → Nowhere ≡ placed (lowest at (members (onward edge (held blocks_in)) (64 * n)))
+  pub high_none : w / 2 ^ highest < 2 → None ≡ placed (lowest at (members (onward edge (held blocks_in)) (64 * n)))
   high_none h =
       clear_nowhere at edge n (held blocks_in)
       (subst (Empty (held blocks_in) edge) blocks_are
       (low_clear blocks_in edge (n - 1) highest edge_is_lem (subst (λ (x : ℕ). x / 2 ^ highest < 2) last_is h)))
 
   pub high_at : {d : ℕ} → NextDigit w highest d
-      → At (at + 8 * (n - 1) + d / 8) ≡ placed (lowest at (members (onward edge (held blocks_in)) (64 * n)))
+      → Some (at + 8 * (n - 1) + d / 8) ≡ placed (lowest at (members (onward edge (held blocks_in)) (64 * n)))
   high_at {d} h =
       let p : at + (64 * (n - 1) + d) / 8 ≡ at + 8 * (n - 1) + d / 8 = omega arith in
-      ap (λ (x : ℕ). At x) (sym p)
+      ap (λ (x : ℕ). Some x) (sym p)
       ∙ sym (ap placed (next_is blocks_in edge (n - 1) highest edge_is_lem at (subst (λ (x : ℕ). NextDigit x highest d) last_is h)))
       ∙ ap (λ (x : ℕ). placed (lowest at (members (onward edge (held blocks_in)) x))) blocks_are

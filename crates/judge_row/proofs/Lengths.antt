@@ -1,6 +1,7 @@
 -- What holds of every line's sizes, how a row's length is judged, and where the row's parts stand. Assumes nothing.
 use mathlib.Core.Path.{◌≡◌, sym, ap, ◌∙◌, subst}
 use mathlib.Core.Bool.{Bool, true, false, ◌&&◌, ◌||◌, and-true, and-false, or-false}
+use mathlib.Core.Logic.{◌⊎◌}
 use mathlib.Core.List.{List}
 use Prim.Native.Nat.{ℕ, ◌+◌, ◌-◌, ◌*◌, ◌/◌, ◌%◌, ◌^◌, ◌≤◌, ◌<◌, min}
 use native.Mathlib.Omega.{arith}
@@ -9,21 +10,23 @@ use lib.ListN.{length}
 use borrow.Author.Tests.{le-leb, lt-leb}
 use Rattle.sets.specs.Configurations.{config_at}
 use Rattle.sets.specs.Row.{length_fits}
-use Rattle.sets.proofs.Configurations.{line_at}
+use Rattle.sets.proofs.Configurations.{entry_width, line_at}
 use Rattle.sizes.specs.Sizes.{sizes_at}
 use Rattle.sizes.specs.declared.Sizes.{Sizes}
-use Rattle.bitchunks.specs.Rows.{layout_of}
+use Rattle.bitchunks.specs.Rows.{layout_of, width_bytes, width_of}
 use Rattle.bitchunks.specs.declared.Layout.{Layout}
-use Rattle.judge_row.specs.Judging.{Listed}
+use Rattle.bitchunks.specs.declared.Width.{Width}
+use Rattle.bitchunks.proofs.Rows.{width_is}
 
 -- ---- every line
 
--- an entry has some bytes, and the entries of a row have not many
-pub row_sizes : {s : Sizes} → Listed s → (0 < s.entry) × (s.top * s.entry ≤ 2 ^ 32)
+-- an entry has 2 or 4 bytes, and the entries of a row have not many
+pub row_sizes : {s : Sizes} (n : ℕ) → s ≡ sizes_at n
+    → ((s.entry ≡ 2) ⊎ (s.entry ≡ 4)) × (0 < s.entry) × (s.top * s.entry ≤ 2 ^ 32)
 unfolding sizes_at
-row_sizes (n, e) =
-    subst (λ (s : Sizes). (0 < s.entry) × (s.top * s.entry ≤ 2 ^ 32)) (sym e)
-    (omega (arith, (line_at n).sound.fits), omega (arith, (line_at n).short))
+row_sizes n e =
+    subst (λ (s : Sizes). ((s.entry ≡ 2) ⊎ (s.entry ≡ 4)) × (0 < s.entry) × (s.top * s.entry ≤ 2 ^ 32)) (sym e)
+    (entry_width n, omega (arith, (line_at n).sound.fits), omega (arith, (line_at n).short))
 
 -- ---- length_fits
 
@@ -71,18 +74,18 @@ module _ (row : List ℕ) (s : Sizes) (n : ℕ) (e : s ≡ sizes_at n) where
 abbrev layout_at : Sizes → List ℕ → Layout
 layout_at s row =
     record {
-      width = s.entry;
+      width = width_of s.entry;
       count = min s.top (length row / s.entry);
       at = s.top * s.entry + 1;
       first = 0;
       n = (length row - (s.top * s.entry + 1)) / 8;
     }
 
-pub layout_is : (row : List ℕ) (s : Sizes) (count k : ℕ) → count ≡ min s.top (length row / s.entry)
-    → k ≡ (length row - (s.top * s.entry + 1)) / 8
-    → (n : ℕ) → s ≡ sizes_at n
-    → record { width = s.entry; count = count; at = s.top * s.entry + 1; first = 0; n = k } ≡ layout_of (config_at n) row
+pub layout_is : (row : List ℕ) {s : Sizes} (n : ℕ) → s ≡ sizes_at n → {w : Width} {count k : ℕ} → width_bytes w ≡ s.entry
+    → count ≡ min s.top (length row / s.entry) → k ≡ length row - (s.top * s.entry + 1)
+    → record { width = w; count = count; at = s.top * s.entry + 1; first = 0; n = k / 8 } ≡ layout_of (config_at n) row
 unfolding sizes_at
-layout_is row s count k c b n e =
-    let q : record { width = s.entry; count = count; at = s.top * s.entry + 1; first = 0; n = k } ≡ layout_at s row = cc in
+layout_is row {s} n e {w} {count} {k} a c b =
+    let v : w ≡ width_of s.entry = width_is w a in
+    let q : record { width = w; count = count; at = s.top * s.entry + 1; first = 0; n = k / 8 } ≡ layout_at s row = cc in
     q ∙ ap (λ (x : Sizes). layout_at x row) e

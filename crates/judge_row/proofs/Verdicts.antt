@@ -1,11 +1,10 @@
 -- What is answered of a row where a test fails, and what the answer tells. Assumes nothing.
 use mathlib.Core.Path.{◌≡◌, refl, sym, ap, ap₂, ◌∙◌, subst}
-use mathlib.Core.Bool.{Bool, true, false, cond, not}
+use mathlib.Core.Bool.{Bool, true, false, cond}
 use mathlib.Core.List.{List, [], ◌∷◌, ◌++◌}
 use Prim.Native.Nat.{ℕ, ◌+◌, ◌-◌, ◌*◌, ◌^◌, ◌≤◌}
 use native.Mathlib.Omega.{arith}
 use lib.ListN.{length, length-append}
-use borrow.Author.Tests.{not-true, not-false}
 use Rattle.sets.specs.Sets.{Set, members}
 use Rattle.sets.specs.Words.{held}
 use Rattle.sets.specs.Configurations.{Config, W, config_at, known}
@@ -24,23 +23,20 @@ use Rattle.sets.proofs.Verdicts.{passed}
 use Rattle.sizes.specs.Sizes.{sizes_at, sizes_of, refusal}
 use Rattle.sizes.specs.declared.Sizes.{Sizes}
 use Rattle.sizes.specs.declared.Refusal.{Refusal}
-use Rattle.sizes.specs.declared.SizesAnswer.{SizesAnswer}
-use Rattle.sizes.specs.declared.SizesAnswer.TheVariants as sized
 use Rattle.sizes.proofs.Laws.{known_of, unknown_of}
-use Rattle.bitchunks.specs.Rows.{RowWalks, blocks, entries, layout_of, row_set}
+use Rattle.bitchunks.specs.Rows.{RowWalks, blocks, layout_of, row_set}
 use Rattle.bitchunks.specs.declared.Layout.{Layout}
 use Rattle.bitchunks.proofs.Shown.{row_walk, row_walks}
-use Rattle.judge_row.specs.Judging.{Listed, fault_of, fault_verdict, found, row_answer, row_verdict, row_of}
-use Rattle.judge_row.specs.declared.RowAnswer.{RowAnswer}
-use Rattle.judge_row.specs.declared.RowAnswer.TheVariants.{Fits, Refused}
+use Rattle.judge_row.specs.Judging.{fault_of, fault_verdict, found, row_answer, row_verdict, row_of}
 use Rattle.judge_row.specs.declared.RowFault.{RowFault}
 use Rattle.judge_row.specs.declared.RowFault.TheVariants as faults
+use Rattle.std.specs.Prelude.{⊤, Result, Ok, Err}
 
 -- 2 and the four tests of 5 tell what is told of the first fault
 faults_told : (e : Bool) (f g h i : Fault)
     → first_failing (test range e ∷ finds fall f ∷ finds block_count g ∷ finds spare h ∷ finds high i ∷ [])
     ≡ fault_verdict (cond e (found (λ b. faults.Fall b) f (found (λ b. faults.BlockCount b) g
-    (found (λ b. faults.Spare b) h (found (λ b. faults.High b) i faults.Nowhere)))) faults.Range)
+    (found (λ b. faults.Spare b) h (found (λ b. faults.High b) i (Ok tt))))) (Err faults.Range))
 faults_told false f g h i = refl
 faults_told true (place b) g h i = refl
 faults_told true nowhere (place b) h i = refl
@@ -49,16 +45,16 @@ faults_told true nowhere nowhere nowhere (place b) = refl
 faults_told true nowhere nowhere nowhere nowhere = refl
 
 -- the tests of a row, one after the other
-abbrev chain : Bool → Bool → RowFault → Verdict
+abbrev chain : Bool → Bool → Result ⊤ RowFault → Verdict
 chain a b x = cond a (cond b (fault_verdict x) (refused (because row_length))) (refused (because configuration))
 
 -- the sizes that were answered
-module _ (n : ℕ) {j : SizesAnswer} {s : Sizes} (f : j ≡ sizes_of n) (q : j ≡ sized.Known s) where
+module _ (n : ℕ) {j : Result Sizes Refusal} {s : Sizes} (f : j ≡ sizes_of n) (q : j ≡ Ok s) where
   sizes_are : (known n ≡ true) × (s ≡ sizes_at n)
   sizes_are = known_of n s (sym f ∙ q)
 
-  pub row_listed : Listed s
-  row_listed = (n, sizes_are.1)
+  pub row_listed : s ≡ sizes_at n
+  row_listed = sizes_are.1
 
 module _ (n : ℕ) (bs : List ℕ) where
   chained : row_verdict n bs ≡ chain (known n) (length_fits (config_at n) bs) (fault_of (config_at n) bs)
@@ -69,7 +65,7 @@ module _ (n : ℕ) (bs : List ℕ) where
       (faults_told (entries_fit c bs) (fall_fault c bs) (count_fault c bs) (spare_fault c bs) (high_fault c bs))
 
   -- what the tests told, and what is answered
-  row_is_lem : {s : Sizes} {l : Layout} → s ≡ sizes_at n → l ≡ layout_of (config_at n) bs → (a b : Bool) (x : RowFault)
+  row_is_lem : {s : Sizes} {l : Layout} → s ≡ sizes_at n → l ≡ layout_of (config_at n) bs → (a b : Bool) (x : Result ⊤ RowFault)
       → known n ≡ a → length_fits (config_at n) bs ≡ b → fault_of (config_at n) bs ≡ x
       → row_answer (chain a b x) s l ≡ row_of n bs
   unfolding row_of
@@ -78,48 +74,47 @@ module _ (n : ℕ) (bs : List ℕ) where
       ap₂ (λ (y : Sizes) (z : Layout). row_answer (chain a b x) y z) e m
       ∙ ap (λ (w : Verdict). row_answer w (sizes_at n) (layout_of (config_at n) bs)) v
 
-  pub row_unknown : {j : SizesAnswer} {r : Refusal} → j ≡ sizes_of n → j ≡ sized.Refused r → Refused r ≡ row_of n bs
+  pub row_unknown : {j : Result Sizes Refusal} {r : Refusal} → j ≡ sizes_of n → j ≡ Err r → Err r ≡ row_of n bs
   row_unknown {r = r} f q =
       let u = unknown_of n r (sym f ∙ q) in
-      ap (λ (x : Refusal). Refused x) u.1 ∙ row_is_lem refl refl false _ _ u.0 refl refl
+      ap (λ (x : Refusal). Err x) u.1 ∙ row_is_lem refl refl false _ _ u.0 refl refl
 
-  module _ {j : SizesAnswer} {s : Sizes} (f : j ≡ sizes_of n) (q : j ≡ sized.Known s) where
-    here : s ≡ sizes_at n
-    here = (sizes_are n f q).1
+  module _ {j : Result Sizes Refusal} {s : Sizes} (f : j ≡ sizes_of n) (q : j ≡ Ok s) where
+    module _ {b : Bool} (hb : b ≡ length_fits (config_at n) bs) where
+      pub row_misfit : b ≡ false → Err (refusal (because row_length)) ≡ row_of n bs
+      row_misfit tb = row_is_lem (row_listed n f q) refl true false _ (sizes_are n f q).0 (sym hb ∙ tb) refl
 
-    module _ {b : Bool} (hb : (i : ℕ) → s ≡ sizes_at i → b ≡ length_fits (config_at i) bs) where
-      pub row_misfit : not b ≡ true → Refused (refusal (because row_length)) ≡ row_of n bs
-      row_misfit tb = row_is_lem here refl true false _ (sizes_are n f q).0 (sym (hb n here) ∙ not-true b tb) refl
-
-      pub row_judged : not b ≡ false → {l : Layout} → ((i : ℕ) → s ≡ sizes_at i → l ≡ layout_of (config_at i) bs)
-          → {x : RowFault} → ((i : ℕ) → s ≡ sizes_at i → x ≡ fault_of (config_at i) bs)
-          → {r : RowAnswer} → r ≡ row_answer (fault_verdict x) s l → r ≡ row_of n bs
+      pub row_judged : b ≡ true → {l : Layout} → l ≡ layout_of (config_at n) bs
+          → {x : Result ⊤ RowFault} → x ≡ fault_of (config_at n) bs
+          → {r : Result (Sizes × Layout) Refusal} → r ≡ row_answer (fault_verdict x) s l → r ≡ row_of n bs
       row_judged tb hl {x} hx e =
-          e ∙ row_is_lem here (hl n here) true true x (sizes_are n f q).0 (sym (hb n here) ∙ not-false b tb) (sym (hx n here))
+          e ∙ row_is_lem (row_listed n f q) hl true true x (sizes_are n f q).0 (sym hb ∙ tb) (sym hx)
 
 -- ---- for callers
 
 -- the answer of a verdict
 module _ (r : Sizes) (k : Layout) where
-  told : (v : Verdict) {s : Sizes} {l : Layout} → row_answer v r k ≡ Fits s l → (v ≡ taken) × (s ≡ r) × (l ≡ k)
-  told taken e = (refl, (cc), (cc))
+  told : (v : Verdict) {s : Sizes} {l : Layout} → row_answer v r k ≡ Ok (s, l) → (v ≡ taken) × (s ≡ r) × (l ≡ k)
+  told taken {s} {l} e =
+      let q : (s, l) ≡ (r, k) = cc in
+      (refl, ap (λ (x : Sizes × Layout). x.0) q, ap (λ (x : Sizes × Layout). x.1) q)
   told (refused i) e =
       let z : ◌≡◌ {A = ℕ} 0 1 = cc in
       absurd (omega arith)
 
-  told_refused : (v : Verdict) {x : Refusal} → row_answer v r k ≡ Refused x → (i : Cause) × (v ≡ refused i) × (x ≡ refusal i)
+  told_refused : (v : Verdict) {x : Refusal} → row_answer v r k ≡ Err x → (i : Cause) × (v ≡ refused i) × (x ≡ refusal i)
   told_refused taken e =
       let z : ◌≡◌ {A = ℕ} 0 1 = cc in
       absurd (omega arith)
   told_refused (refused i) e = (i, refl, (cc))
 
 module _ (n : ℕ) (bs : List ℕ) where
-  pub row_told : {j : RowAnswer} {s : Sizes} {l : Layout} → j ≡ row_of n bs → j ≡ Fits s l
+  pub row_told : {j : Result (Sizes × Layout) Refusal} {s : Sizes} {l : Layout} → j ≡ row_of n bs → j ≡ Ok (s, l)
       → (row_verdict n bs ≡ taken) × (s ≡ sizes_at n) × (l ≡ layout_of (config_at n) bs)
   unfolding row_of
   row_told e q = told (sizes_at n) (layout_of (config_at n) bs) (row_verdict n bs) (sym e ∙ q)
 
-  pub row_refused : {j : RowAnswer} {x : Refusal} → j ≡ row_of n bs → j ≡ Refused x
+  pub row_refused : {j : Result (Sizes × Layout) Refusal} {x : Refusal} → j ≡ row_of n bs → j ≡ Err x
       → (k : Cause) × (row_verdict n bs ≡ refused k) × (x ≡ refusal k)
   unfolding row_of
   row_refused e q = told_refused (sizes_at n) (layout_of (config_at n) bs) (row_verdict n bs) (sym e ∙ q)
@@ -155,7 +150,7 @@ module _ (n : ℕ) (bs : List ℕ) where
         row_walks (config_at n) bs k (entry_width n) w (line_at n).small row_short (row_facts t).0
 
     row_shows : (p : ℕ) → row_set (layout_of (config_at n) bs) bs p ≡ shown_row (config_at n) bs p
-    row_shows = row_walk (config_at n) bs (row_facts t).0
+    row_shows = row_walk (config_at n) bs (entry_width n) (row_facts t).0
 
     row_members : members (shown_row (config_at n) bs) (W (config_at n))
         ≡ row_entries (config_at n) bs ++ members (held (row_blocks (config_at n) bs)) (64 * row_block_count (config_at n) bs)
@@ -190,10 +185,10 @@ module _ (n : ℕ) (bs : List ℕ) where
     row_total =
         let l : Layout = layout_of (config_at n) bs in
         let ones : List ℕ = members (held (blocks l bs)) (64 * l.n) in
-        omega (arith, ap length row_members, length-append (entries l bs) ones, length_numbers l.width l.count bs)
+        omega (arith, ap length row_members, length-append (row_entries (config_at n) bs) ones, length_numbers (config_at n).entry l.count bs)
 
   -- of the layout that was answered
-  module _ {j : RowAnswer} {s : Sizes} {l : Layout} (e : j ≡ row_of n bs) (q : j ≡ Fits s l) where
+  module _ {j : Result (Sizes × Layout) Refusal} {s : Sizes} {l : Layout} (e : j ≡ row_of n bs) (q : j ≡ Ok (s, l)) where
     fits_are : (P : Layout → Type 0) → P (layout_of (config_at n) bs) → P l
     fits_are P p = subst P (sym (row_told e q).2) p
 

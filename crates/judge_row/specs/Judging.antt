@@ -1,73 +1,65 @@
 -- What is answered of a row: the first test that fails, or where its parts stand.
-use Rattle.std.specs.Prelude.{◌≡◌, cond, true, false, List, ◌∷◌, ℕ, ◌<◌}
+use Rattle.std.specs.Prelude.{◌≡◌, cond, true, false, List, ◌∷◌, ℕ, ◌<◌, ⊤, Option, None, Some, Result, Ok, Err}
 use Rattle.sets.specs.Words.{digit}
 use Rattle.sets.specs.Configurations.{Config, config_at}
 use Rattle.sets.specs.Row.{Fault, nowhere, place, entries_fit, fall_fault, count_fault, spare_fault, high_fault, rising}
-use Rattle.sets.specs.Refusals.{Verdict, taken, refused, because, because_at, verdict, answer, is_known, is_row_of}
+use Rattle.sets.specs.Refusals.{Cause, Verdict, taken, refused, because, because_at, verdict, answer, is_known, is_row_of}
 use Rattle.sets.specs.Refusals.{range, fall, block_count, spare, high}
 use Rattle.sizes.specs.Sizes.{sizes_at, refusal}
 use Rattle.sizes.specs.declared.Sizes.{Sizes}
-use Rattle.bitchunks.specs.Rows.{entries, layout_of}
+use Rattle.bitchunks.specs.Rows.{entries, layout_of, width_bytes}
 use Rattle.bitchunks.specs.declared.Layout.{Layout}
-use Rattle.judge_row.specs.declared.Place.{Place}
-use Rattle.judge_row.specs.declared.Place.TheVariants as places
 use Rattle.judge_row.specs.declared.RowFault.{RowFault}
 use Rattle.judge_row.specs.declared.RowFault.TheVariants as faults
-use Rattle.judge_row.specs.declared.RowAnswer.{RowAnswer}
-use Rattle.judge_row.specs.declared.RowAnswer.TheVariants.{Fits, Refused}
+use Rattle.sizes.specs.declared.Refusal.{Refusal}
 
 -- 1, 4, 2 and 5: what opening a row judges
 unfoldable pub row_verdict : ℕ → List ℕ → Verdict
 row_verdict n bs = verdict (is_known n ∷ is_row_of (config_at n) bs)
 
-abbrev pub row_answer : Verdict → Sizes → Layout → RowAnswer
-row_answer v s layout = answer v (λ k. Refused (refusal k)) (Fits s layout)
+abbrev pub row_answer : Verdict → Sizes → Layout → Result (Sizes × Layout) Refusal
+row_answer v s layout = answer v (λ k. Err (refusal k)) (Ok (s, layout))
 
-unfoldable pub row_of : ℕ → List ℕ → RowAnswer
+unfoldable pub row_of : ℕ → List ℕ → Result (Sizes × Layout) Refusal
 row_of n bs = row_answer (row_verdict n bs) (sizes_at n) (layout_of (config_at n) bs)
 
 -- ---- faults
 
-abbrev pub placed : Fault → Place
-placed nowhere = places.Nowhere
-placed (place b) = places.At b
+abbrev pub placed : Fault → Option ℕ
+placed nowhere = None
+placed (place b) = Some b
 
 -- what a test finds, or else what the next ones find
-abbrev pub found : (ℕ → RowFault) → Fault → RowFault → RowFault
+abbrev pub found : (ℕ → RowFault) → Fault → Result ⊤ RowFault → Result ⊤ RowFault
 found fault nowhere next = next
-found fault (place b) next = fault b
+found fault (place b) next = Err (fault b)
 
 -- the first of 2 and of the four tests of 5 that finds a fault
-unfoldable pub fault_of : Config → List ℕ → RowFault
+unfoldable pub fault_of : Config → List ℕ → Result ⊤ RowFault
 fault_of c bs =
     cond (entries_fit c bs)
     (found (λ b. faults.Fall b) (fall_fault c bs)
     (found (λ b. faults.BlockCount b) (count_fault c bs)
-    (found (λ b. faults.Spare b) (spare_fault c bs) (found (λ b. faults.High b) (high_fault c bs) faults.Nowhere))))
-    faults.Range
+    (found (λ b. faults.Spare b) (spare_fault c bs) (found (λ b. faults.High b) (high_fault c bs) (Ok tt)))))
+    (Err faults.Range)
 
 -- what is told of it
-abbrev pub fault_verdict : RowFault → Verdict
-fault_verdict faults.Nowhere = taken
-fault_verdict faults.Range = refused (because range)
-fault_verdict (faults.Fall b) = refused (because_at fall b)
-fault_verdict (faults.BlockCount b) = refused (because_at block_count b)
-fault_verdict (faults.Spare b) = refused (because_at spare b)
-fault_verdict (faults.High b) = refused (because_at high b)
+abbrev pub cause_of : RowFault → Cause
+cause_of faults.Range = because range
+cause_of (faults.Fall b) = because_at fall b
+cause_of (faults.BlockCount b) = because_at block_count b
+cause_of (faults.Spare b) = because_at spare b
+cause_of (faults.High b) = because_at high b
+
+abbrev pub fault_verdict : Result ⊤ RowFault → Verdict
+fault_verdict (Ok t) = taken
+fault_verdict (Err fault) = refused (cause_of fault)
 
 -- ---- inner functions
 
--- the sizes are a line of the table
-abbrev pub Listed : Sizes → Type 0
-Listed s = (n : ℕ) × (s ≡ sizes_at n)
-
--- the layout is the row's
-abbrev pub Measured : Sizes → Layout → List ℕ → Type 0
-Measured s layout row = (n : ℕ) → s ≡ sizes_at n → layout ≡ layout_of (config_at n) row
-
 -- where the row's entries do not fall, from below W
 abbrev pub entry_fault : Sizes → Layout → List ℕ → Fault
-entry_fault s layout row = rising layout.width 0 s.buckets (entries layout row)
+entry_fault s layout row = rising (width_bytes layout.width) 0 s.buckets (entries layout row)
 
 -- r is the lowest place above `bit` that is set in a block
 pub record NextDigit (block bit r : ℕ) : Type 0 where

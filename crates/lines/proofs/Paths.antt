@@ -12,30 +12,27 @@ use lib.Seq.{take_all}
 use borrow.Author.Tests.{ne_eqb}
 use Rattle.sets.specs.Sets.{same}
 use Rattle.sets.specs.Configurations.{config_at}
-use Rattle.sets.specs.Refusals.{Verdict, areas_lent, is_row_of, taken, verdict, because, text_form}
+use Rattle.sets.specs.Refusals.{Verdict, areas_lent, is_mask, is_row_of, taken, verdict, because, text_form}
 use Rattle.sets.specs.Row.{shown_row}
 use Rattle.sets.specs.Text.{Judged, Mask as Text-as-Mask, after, all, bare_config, config_line, cut, cut_at, decimal, from_hex, is, is_digit}
 use Rattle.sets.specs.Text.{judged_mask, mask_line, numbered, refused_at, space, text, two_decimals, unless_refused}
 use Rattle.sets.proofs.Verdicts.{after_taken}
-use Rattle.sizes.specs.Sizes.{refusal}
+use Rattle.sizes.specs.Sizes.{number_of}
 use Rattle.sizes.specs.declared.Refusal.{Refusal}
-use Rattle.judge.specs.Judging.{mask_of}
-use Rattle.judge.specs.declared.MaskAnswer.{MaskAnswer}
-use Rattle.judge.specs.declared.MaskAnswer.TheVariants as masks
+use Rattle.judge.specs.Judging.{mask_of, passing}
 use Rattle.judge.proofs.Verdicts.{mask_refused, mask_told_lem}
 use Rattle.diff_count.specs.Making.{Makes}
-use Rattle.diff_count.specs.declared.Made.{Made}
-use Rattle.diff_count.specs.declared.Made.TheVariants as made
 use Rattle.diff_count.proofs.Outcomes.{makes_refused}
 use Rattle.rows.specs.Calls.{Reads, read_verdict}
 use Rattle.decode.specs.Parts.{Finds, Hexed, Starts, number_in}
-use Rattle.decode.specs.declared.Found.{Found}
-use Rattle.decode.specs.declared.Found.TheVariants as found
-use Rattle.decode.specs.declared.Hex.{Hex}
-use Rattle.decode.specs.declared.Hex.TheVariants as hex
-use Rattle.decode.specs.declared.Number.{Number}
-use Rattle.decode.specs.declared.Number.TheVariants as number
 use Rattle.lines.specs.Lines.{ReadsLine, bytes_in, line_verdict}
+use Rattle.diff_count.specs.declared.Filter.{Filter}
+use Rattle.std.specs.Prelude.{⊤, Result, Ok, Err, IsErrAnd}
+use Rattle.std.specs.Option.{ok_or}
+use Rattle.std.specs.Prelude as maybe
+use Rattle.sizes.specs.declared.Refusal.TheVariants.{TextForm}
+use Rattle.sizes.proofs.Laws.{handed_on}
+use Rattle.sizes.proofs.Numbers.{refusal_numbered}
 
 -- ---- parts
 
@@ -49,6 +46,31 @@ module _ (word s : List ℕ) {b : Bool} (S : Starts word s b) where
 
   differs : b ≡ false → after word s ≡ none
   differs e = subst (λ (x : Bool). Starts word s x) e S
+
+-- ---- a part that may be missing, and then the text is malformed
+
+absent : {A : Type 0} (o : maybe.Option A) {x : Refusal} → ok_or o TextForm ≡ Err x → (o ≡ maybe.None) × (x ≡ TextForm)
+absent maybe.None h = (refl, (cc))
+absent (maybe.Some b) h =
+    let z : ◌≡◌ {A = ℕ} 0 1 = cc in
+    absurd (omega arith)
+
+module _ {A : Type 0} {o : maybe.Option A} {r : Result A Refusal} (e : r ≡ ok_or o TextForm) where
+  pub there : {a : A} → r ≡ Ok a → o ≡ maybe.Some a
+  there {a} q = go o (sym e ∙ q)
+    where
+      go : (o : maybe.Option A) → ok_or o TextForm ≡ Ok a → o ≡ maybe.Some a
+      go (maybe.Some b) h = cc
+      go maybe.None h =
+          let z : ◌≡◌ {A = ℕ} 0 1 = cc in
+          absurd (omega arith)
+
+  pub missing : {x : Refusal} → r ≡ Err x → o ≡ maybe.None
+  missing q = (absent o (sym e ∙ q)).0
+
+pub malformed : {A : Type 0} (o : maybe.Option A) {r : Result A Refusal} → r ≡ ok_or o TextForm → {x : Refusal} → r ≡ Err x
+    → {B : Type 0} (t : Result B Refusal) → IsErrAnd t (λ y. y ≡ x) → t ≡ Err TextForm
+malformed o e q t h = handed_on t h ∙ ap (λ (y : Refusal). Err y) (absent o (sym e ∙ q)).1
 
 -- ---- numbered
 
@@ -95,55 +117,55 @@ module _ (s : List ℕ) where
 
 -- ---- judged_mask
 
-module _ (mask size : ℕ) {j : MaskAnswer} (f : j ≡ mask_of mask size) where
-  pub mask_taken : j ≡ masks.Fits → is (record { mask = mask; size = size }) ≡ judged_mask mask size
+module _ (mask size : ℕ) {j : Result ⊤ Refusal} (f : j ≡ mask_of mask size) where
+  pub mask_taken : j ≡ passing → is (record { mask = mask; size = size }) ≡ judged_mask mask size
   mask_taken q = rw (mask_told_lem mask size (sym f ∙ q)).0
 
-  pub mask_not : {x : Refusal} → j ≡ masks.Refused x → refused_at x.number 2 ≡ judged_mask mask size
+  pub mask_not : {x : Refusal} → j ≡ Err x → refused_at (number_of x) 2 ≡ judged_mask mask size
   mask_not {x} q =
       let r = mask_refused mask size x (sym f ∙ q) in
-      ap (λ (y : Refusal). refused_at y.number 2) r.2
+      ap (λ (n : ℕ). refused_at n 2) (ap number_of r.2 ∙ refusal_numbered (is_mask mask size) r.1)
       ∙ ap (λ (v : Verdict). unless_refused v 2 (record { mask = mask; size = size })) (sym r.1)
 
 -- ---- two_decimals
 
-number_none : (o : Option ℕ) → number_in o ≡ number.Malformed → o ≡ none
+number_none : (o : Option ℕ) → number_in o ≡ maybe.None → o ≡ none
 number_none none e = refl
 number_none (some n) e =
     let z : ◌≡◌ {A = ℕ} 0 1 = cc in
     absurd (omega arith)
 
-number_some : (o : Option ℕ) (n : ℕ) → number_in o ≡ number.Is n → o ≡ some n
+number_some : (o : Option ℕ) (n : ℕ) → number_in o ≡ maybe.Some n → o ≡ some n
 number_some none n e =
     let z : ◌≡◌ {A = ℕ} 0 1 = cc in
     absurd (omega arith)
 number_some (some k) n e = cc
 
-module _ (s : List ℕ) {f : Found} (F : Finds space s f) where
-  pub no_space : f ≡ found.Nothing → refused_at 11 2 ≡ two_decimals (cut_at space s)
-  no_space e = rw (subst (λ (x : Found). Finds space s x) e F)
+module _ (s : List ℕ) {f : maybe.Option ℕ} (F : Finds space s f) where
+  pub no_space : f ≡ maybe.None → refused_at 11 2 ≡ two_decimals (cut_at space s)
+  no_space e = rw (subst (λ (x : maybe.Option ℕ). Finds space s x) e F)
 
-  module _ {i : ℕ} (e : f ≡ found.At i) where
+  module _ {i : ℕ} (e : f ≡ maybe.Some i) where
     found_at : (i < length s) × (cut_at space s ≡ cut (take i s) (drop (suc i) s))
-    found_at = subst (λ (x : Found). Finds space s x) e F
+    found_at = subst (λ (x : maybe.Option ℕ). Finds space s x) e F
 
     pub before_end : i < length s
     before_end = found_at.0
 
-    module _ {d : Number} (D : d ≡ number_in (decimal (take i s))) where
-      pub no_mask : d ≡ number.Malformed → refused_at 11 2 ≡ two_decimals (cut_at space s)
+    module _ {d : maybe.Option ℕ} (D : d ≡ number_in (decimal (take i s))) where
+      pub no_mask : d ≡ maybe.None → refused_at 11 2 ≡ two_decimals (cut_at space s)
       no_mask q = rw (found_at.1, number_none (decimal (take i s)) (sym D ∙ q))
 
-      module _ {mask : ℕ} (q : d ≡ number.Is mask) {g : Number}
+      module _ {mask : ℕ} (q : d ≡ maybe.Some mask) {g : maybe.Option ℕ}
           (G : g ≡ number_in (decimal (take (length s - (i + 1)) (drop (i + 1) s)))) where
         size_told : g ≡ number_in (decimal (drop (suc i) s))
         size_told = G ∙ ap (λ (l : List ℕ). number_in (decimal l)) (rest (i + 1) s ∙ ap (λ (k : ℕ). drop k s) (add-one i))
 
-        pub no_size : g ≡ number.Malformed → refused_at 11 2 ≡ two_decimals (cut_at space s)
+        pub no_size : g ≡ maybe.None → refused_at 11 2 ≡ two_decimals (cut_at space s)
         no_size p =
             rw (found_at.1, number_some (decimal (take i s)) mask (sym D ∙ q), number_none (decimal (drop (suc i) s)) (sym size_told ∙ p))
 
-        pub two_told : {size : ℕ} → g ≡ number.Is size → {x : Judged Text-as-Mask} → x ≡ judged_mask mask size → x ≡ two_decimals (cut_at space s)
+        pub two_told : {size : ℕ} → g ≡ maybe.Some size → {x : Judged Text-as-Mask} → x ≡ judged_mask mask size → x ≡ two_decimals (cut_at space s)
         two_told {size} p h =
             rw (
               found_at.1,
@@ -167,22 +189,22 @@ module _ (s : List ℕ) {b : Bool} (S : Starts (text "mask ") s b) where
 
 -- ---- row_line
 
-module _ (s to : List ℕ) {h : Hex} (H : Hexed s h to) where
-  hexed : {k : ℕ} → h ≡ hex.Bytes k → (k ≤ length to) × (from_hex s ≡ some (take k to))
-  hexed e = subst (λ (x : Hex). Hexed s x to) e H
+module _ (s to : List ℕ) {h : maybe.Option ℕ} (H : Hexed s h to) where
+  hexed : {k : ℕ} → h ≡ maybe.Some k → (k ≤ length to) × (from_hex s ≡ some (take k to))
+  hexed e = subst (λ (x : maybe.Option ℕ). Hexed s x to) e H
 
-  pub row_in : {k : ℕ} → h ≡ hex.Bytes k → k ≤ length to
+  pub row_in : {k : ℕ} → h ≡ maybe.Some k → k ≤ length to
   row_in e = (hexed e).0
 
   module _ (n : ℕ) (top bits : List ℕ) where
-    pub no_hex : h ≡ hex.Malformed → ReadsLine n s top bits (made.Refused (refusal (because text_form))) top bits
-    no_hex e =
+    pub no_hex : h ≡ maybe.None → {r : Result Filter Refusal} → r ≡ Err TextForm → ReadsLine n s top bits r top bits
+    no_hex e q =
         makes_refused (line_verdict (config_at n) (from_hex s)) (config_at n) (shown_row (config_at n) (bytes_in (from_hex s))) top bits
-        (refusal (because text_form)) (because text_form)
-        (ap (line_verdict (config_at n)) (subst (λ (x : Hex). Hexed s x to) e H)) refl
+        TextForm (because text_form) q
+        (ap (line_verdict (config_at n)) (subst (λ (x : maybe.Option ℕ). Hexed s x to) e H)) refl
 
     -- with areas lent, reading judges by the row alone
-    pub row_told : {k : ℕ} → h ≡ hex.Bytes k → verdict (areas_lent n (length top) (length bits)) ≡ taken → {r : Made} {top' bits' : List ℕ}
+    pub row_told : {k : ℕ} → h ≡ maybe.Some k → verdict (areas_lent n (length top) (length bits)) ≡ taken → {r : Result Filter Refusal} {top' bits' : List ℕ}
         → Reads n (take k to) top bits r top' bits' → ReadsLine n s top bits r top' bits'
     unfolding read_verdict
     row_told {k} e a {r} {top'} {bits'} R =

@@ -15,29 +15,27 @@ use Rattle.sets.proofs.Words.{shl_one}
 use Rattle.sizes.specs.Sizes.{refusal}
 use Rattle.bitchunks.specs.Walk.{Ahead}
 use Rattle.bitchunks.specs.Ones.{Gives, rest}
-use Rattle.bitchunks.specs.declared.NextOne.{NextOne}
-use Rattle.bitchunks.specs.declared.NextOne.TheVariants.{At, Nothing}
 use Rattle.bitchunks.specs.declared.Ones.{Ones}
 use Rattle.bitchunks.proofs.Giving.{rest_none}
 use Rattle.masked.specs.Inner.{key_told}
-use Rattle.masked.specs.declared.KeyAnswer.{KeyAnswer}
-use Rattle.masked.specs.declared.KeyAnswer.TheVariants.{Key, Refused}
 use Rattle.sets.specs.Refusals.{because, slot}
+use Rattle.sizes.specs.declared.Refusal.{Refusal}
+use Rattle.std.specs.Prelude.{None, Some, Result, Ok, Err}
 
 -- ---- what is still to be packed
 
 -- the answer where `slots` whole slots and the leftover are still to be filled from ps, below what `key` holds
-unfoldable pub told : ℕ → ℕ → ℕ → ℕ → List ℕ → KeyAnswer
+unfoldable pub told : ℕ → ℕ → ℕ → ℕ → List ℕ → Result ℕ Refusal
 told bits leftover slots key ps =
-    cond (all_below (2 ^ bits) (take (suc slots) ps)) (Key (key + packed bits leftover slots ps)) (Refused (refusal (because slot)))
+    cond (all_below (2 ^ bits) (take (suc slots) ps)) (Ok (key + packed bits leftover slots ps)) (Err (refusal (because slot)))
 
 module _ (bits leftover : ℕ) where
-  told_nil : (slots key : ℕ) → told bits leftover slots key [] ≡ Key key
+  told_nil : (slots key : ℕ) → told bits leftover slots key [] ≡ Ok key
   unfolding told
-  told_nil slots key = ap Key (omega (arith, packed_nil bits leftover slots))
+  told_nil slots key = ap Ok (omega (arith, packed_nil bits leftover slots))
 
   module _ (p : ℕ) (ps : List ℕ) where
-    told_bad : (slots key : ℕ) → 2 ^ bits ≤ p → told bits leftover slots key (p ∷ ps) ≡ Refused (refusal (because slot))
+    told_bad : (slots key : ℕ) → 2 ^ bits ≤ p → told bits leftover slots key (p ∷ ps) ≡ Err (refusal (because slot))
     unfolding told
     told_bad slots key h = rw (le-ltb p (2 ^ bits) h)
 
@@ -47,7 +45,7 @@ module _ (bits leftover : ℕ) where
       unfolding told packed
       told_more slots key = rw (lt-ltb p (2 ^ bits) h, add_assoc key (p * 2 ^ (slots * bits + leftover)) (packed bits leftover slots ps))
 
-      told_last : (key : ℕ) → told bits leftover 0 key (p ∷ ps) ≡ Key (key + p / 2 ^ (bits - leftover))
+      told_last : (key : ℕ) → told bits leftover 0 key (p ∷ ps) ≡ Ok (key + p / 2 ^ (bits - leftover))
       unfolding told packed
       told_last key = rw (lt-ltb p (2 ^ bits) h)
 
@@ -89,17 +87,12 @@ pack_start {tops} {k} S bits a =
 
 module _ {S : Set} {tops : List ℕ} {bits : ℕ} {all : List ℕ} {key room passed end block : ℕ}
     (t : Packing S tops bits all key room passed end block) where
-  pub pack_none : {r : NextOne} → r ≡ Nothing → Gives S tops (rest S end block) r → Key key ≡ key_told bits all
-  pack_none q g =
-      sym (t.same ∙ ap (told bits (64 % bits) t.slots key) (subst (Gives S tops (rest S end block)) q g)
-      ∙ told_nil bits (64 % bits) t.slots key)
+  pub pack_none : Gives S tops (rest S end block) None → Ok key ≡ key_told bits all
+  pack_none g = sym (t.same ∙ ap (told bits (64 % bits) t.slots key) g ∙ told_nil bits (64 % bits) t.slots key)
 
-  module _ {r : NextOne} {p : ℕ} {o : Ones} (q : r ≡ At p o) (g : Gives S tops (rest S end block) r) where
-    step : Gives S tops (rest S end block) (At p o)
-    step = subst (Gives S tops (rest S end block)) q g
-
+  module _ (p : ℕ) (o : Ones) (step : Gives S tops (rest S end block) (Some (p, o))) where
     abbrev ps : List ℕ
-    ps = rest S o.end o.block
+    ps = rest S o.cursor.end o.block
 
     next : key_told bits all ≡ told bits (64 % bits) t.slots key (p ∷ ps)
     next = t.same ∙ ap (told bits (64 % bits) t.slots key) step.0
@@ -108,7 +101,7 @@ module _ {S : Set} {tops : List ℕ} {bits : ℕ} {all : List ℕ} {key room pas
       limit_is : 1 * 2 ^ bits % 2 ^ 64 ≡ 2 ^ bits
       limit_is = shl_one bits (omega arith)
 
-      pub pack_bad : 1 * 2 ^ bits % 2 ^ 64 ≤ p → Refused (refusal (because slot)) ≡ key_told bits all
+      pub pack_bad : 1 * 2 ^ bits % 2 ^ 64 ≤ p → Err (refusal (because slot)) ≡ key_told bits all
       pack_bad b = sym (next ∙ told_bad bits (64 % bits) p ps t.slots key (omega (arith, limit_is)))
 
       module _ (b : p < 1 * 2 ^ bits % 2 ^ 64) where
@@ -126,11 +119,11 @@ module _ {S : Set} {tops : List ℕ} {bits : ℕ} {all : List ℕ} {key room pas
           pub pack_fits : key + p * 2 ^ (room - bits) % 2 ^ 64 < 2 ^ 64
           pack_fits = rw slot_is slot_spare
 
-          pub pack_turn : Packing S tops bits all (key + p * 2 ^ (room - bits) % 2 ^ 64) (room - bits) o.passed o.end o.block
+          pub pack_turn : Packing S tops bits all (key + p * 2 ^ (room - bits) % 2 ^ 64) (room - bits) o.cursor.passed o.cursor.end o.block
           pack_turn = rw slot_is (go t.slots t.room_is next)
             where
               go : (n : ℕ) → room ≡ n * bits + 64 % bits → key_told bits all ≡ told bits (64 % bits) n key (p ∷ ps)
-                  → Packing S tops bits all (key + p * 2 ^ (room - bits)) (room - bits) o.passed o.end o.block
+                  → Packing S tops bits all (key + p * 2 ^ (room - bits)) (room - bits) o.cursor.passed o.cursor.end o.block
               go zero e n = absurd (omega (arith, mod-lt 64 {m = bits} (omega arith)))
               go (suc slots) e n =
                   let f : room - bits ≡ slots * bits + 64 % bits = omega (arith, suc-mul slots bits) in
@@ -150,12 +143,12 @@ module _ {S : Set} {tops : List ℕ} {bits : ℕ} {all : List ℕ} {key room pas
           pub last_fits : key + p / 2 ^ (bits - room) < 2 ^ 64
           last_fits = omega (arith, last_room bits room p h (omega arith), t.spare)
 
-          pub pack_last : Key (key + p / 2 ^ (bits - room)) ≡ key_told bits all
+          pub pack_last : Ok (key + p / 2 ^ (bits - room)) ≡ key_told bits all
           pack_last = sym (go t.slots t.room_is next)
             where
               go : (n : ℕ) → room ≡ n * bits + 64 % bits → key_told bits all ≡ told bits (64 % bits) n key (p ∷ ps)
-                  → key_told bits all ≡ Key (key + p / 2 ^ (bits - room))
+                  → key_told bits all ≡ Ok (key + p / 2 ^ (bits - room))
               go zero e n =
                   let f : 64 % bits ≡ room = omega arith in
-                  n ∙ told_last bits (64 % bits) p ps h key ∙ ap (λ (x : ℕ). Key (key + p / 2 ^ (bits - x))) f
+                  n ∙ told_last bits (64 % bits) p ps h key ∙ ap (λ (x : ℕ). Ok (key + p / 2 ^ (bits - x))) f
               go (suc slots) e n = absurd (omega (arith, suc-mul slots bits))

@@ -102,8 +102,8 @@ module _ {m k level : ℕ} {bits₀ : List ℕ} {split : ℕ} {next : Stage} (s 
 module _ {m k : ℕ} {pending₀ bits₀ : List ℕ} {stage : Stage} (room : Room (2 * m) k pending₀ bits₀)
     (staged : Staged m k pending₀ bits₀ stage) where
   -- the blocks have room for the buckets pending
-  pub fold_fits : (stage.count ≤ length pending₀) × Below (64 * length bits₀) (take stage.count pending₀)
-  fold_fits = (omega (arith, staged.few, room.cells), λ i h. omega (arith, staged.in_range i h, room.blocks_in))
+  pub fold_fits : Below (64 * length bits₀) (take stage.count pending₀)
+  fold_fits i h = omega (arith, staged.in_range i h, room.blocks_in)
 
   module _ {level : ℕ} {bits₁ pending₁ bits : List ℕ} {next : Stage} (folded : bits₁ ≡ flip_bits bits₀ (take stage.count pending₀))
       (s : Settled m k level bits₁ stage.split next) (t : Taken k next.split next.count pending₀ bits₁ pending₁ bits) where

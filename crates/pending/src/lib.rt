@@ -14,7 +14,7 @@ pub struct Stage {
     pub count: usize,
 }
 
-// How many buckets of the first k blocks are at or above the split.
+// How many buckets of the first k blocks are at or above the split. k beside the slice, since `settle` asks it again and again.
 fn count_from(bits: &[u64], split: usize, k: usize) -> usize
     requires { (split ≤ 64 * k) × (k ≤ length bits.now) × (64 * k ≤ 2 ^ 32) }
     ensures { result ≡ held_from k bits.now split }
@@ -24,11 +24,12 @@ fn count_from(bits: &[u64], split: usize, k: usize) -> usize
         return 0;
     }
     let first = bitvec::ones_of(bits[i] >> buckets::into_bit(split));
-    first + bitvec::count_ones(bits, i + 1, k)
+    first + bitvec::count_ones(&bits[i + 1..k])
 }
 
 // Raises the split by whole levels, never past the last block's end, until at most m buckets of the blocks are at or above it, and
 // counts these.
+// The split rises by levels; no index is counted.
 fn settle(bits: &[u64], split: usize, m: usize, k: usize, level: usize) -> Stage
     requires split_bound { (split ≤ 64 * k) × (k ≤ length bits.now) × (64 * k ≤ 2 ^ 32) }
     requires level_nonzero { (0 < level) × (level ≤ 2 ^ 32) }
@@ -37,10 +38,7 @@ fn settle(bits: &[u64], split: usize, m: usize, k: usize, level: usize) -> Stage
     let mut up = split;
     let mut count = count_from(bits, split, k);
     while m < count {
-        up += level;
-        if 64 * k < up {
-            up = 64 * k;
-        }
+        up = (up + level).min(64 * k);
         count = count_from(bits, up, k);
     }
     Stage { split: up, count }
@@ -48,6 +46,7 @@ fn settle(bits: &[u64], split: usize, m: usize, k: usize, level: usize) -> Stage
 
 // Flips the pending buckets into the blocks, where doubles cancel; settles the split; takes what is at or above it out again, the
 // largest first.
+// `Staged` stays a clause: document 01 lends a builder's areas apart from its record.
 fn compact(
     pending: &mut [u32],
     bits: &mut [u64],
@@ -62,14 +61,14 @@ fn compact(
     ensures { Moves m k level [] pending.old bits.old stage pending.new bits.new result
         × (result.count ≤ m) }
 {
-    bitvec::toggle_all(bits, pending, stage.count);
+    bitvec::toggle_all(bits, &pending[..stage.count]);
     let next = settle(bits, stage.split, m, k, level);
     let count = next.count;
     // `lift` wants a place to lift to
     if 0 < count {
         bitvec::lift(pending, bits, count, k);
     }
-    bitvec::zero_cells(pending, count, 2 * m);
+    pending[count..2 * m].fill(0);
     next
 }
 
@@ -82,12 +81,13 @@ fn store(pending: &mut [u32], stage: Stage, bucket: usize) -> Stage
     let count = stage.count;
     pending[count] = bucket as u32;
     Stage {
-        split: stage.split,
         count: count + 1,
+        ..stage
     }
 }
 
 // Below the split the bit flips. Otherwise the bucket waits; a full area is compacted first.
+// `Staged` stays a clause: document 01 lends a builder's areas apart from its record.
 fn push_one(
     pending: &mut [u32],
     bits: &mut [u64],
@@ -115,6 +115,7 @@ fn push_one(
 }
 
 // The buckets listed, one after the other.
+// `Staged` stays a clause: document 01 lends a builder's areas apart from its record.
 pub fn push_all(
     pending: &mut [u32],
     bits: &mut [u64],
@@ -131,11 +132,8 @@ pub fn push_all(
         pending.new bits.new result × Stays m list.now stage result }
 {
     let mut now = stage;
-    let mut i = 0;
-    while i < list.len() {
-        let bucket = buckets::into_usize(list[i]);
-        now = push_one(pending, bits, now, m, k, level, bucket);
-        i += 1;
+    for &bucket in list {
+        now = push_one(pending, bits, now, m, k, level, buckets::into_usize(bucket));
     }
     now
 }

@@ -14,25 +14,20 @@ use Rattle.sets.proofs.Verdicts.{after_taken, after_refused}
 use Rattle.sizes.specs.Sizes.{sizes_of}
 use Rattle.sizes.specs.declared.Sizes.{Sizes}
 use Rattle.sizes.specs.declared.Refusal.{Refusal}
-use Rattle.sizes.specs.declared.SizesAnswer.{SizesAnswer}
-use Rattle.sizes.specs.declared.SizesAnswer.TheVariants as sizes
 use Rattle.sizes.proofs.Laws.{known_of, unknown_of}
 use Rattle.bitchunks.specs.Rows.{RowWalks, row_set}
 use Rattle.bitchunks.specs.declared.Layout.{Layout}
-use Rattle.judge.specs.Judging.{mask_of}
-use Rattle.judge.specs.declared.MaskAnswer.{MaskAnswer}
-use Rattle.judge.specs.declared.MaskAnswer.TheVariants as masks
+use Rattle.judge.specs.Judging.{mask_of, passing}
 use Rattle.judge.proofs.Verdicts.{mask_told_lem, mask_refused, refuses, takes}
 use Rattle.judge_row.specs.Judging.{row_of, row_verdict}
-use Rattle.judge_row.specs.declared.RowAnswer.{RowAnswer}
-use Rattle.judge_row.specs.declared.RowAnswer.TheVariants as rows
 use Rattle.judge_row.proofs.Verdicts.{fits_blocks, fits_buckets, fits_shows, fits_walks, row_alone, row_refused, row_taken, row_told}
-use Rattle.masked.specs.Inner.{order_answer, order_told}
-use Rattle.masked.specs.declared.OrderAnswer.{OrderAnswer}
-use Rattle.masked.specs.declared.OrderAnswer.TheVariants as orders
+use Rattle.masked.specs.Inner.{order_answer}
 use Rattle.masked.proofs.Asked.{mask_decides, mask_passes, order_asked}
 use Rattle.row_order.specs.Calls.{cmp_rows_of, rows_order, rows_verdict}
 use Rattle.row_order.specs.Inner.{both_verdict, judged_of}
+use Rattle.std.specs.Prelude.{⊤, Result, Ok, Err}
+use Rattle.std.specs.declared.cmp.Ordering.{Ordering}
+use Rattle.std.specs.declared.cmp.Ordering.TheVariants.{Equal}
 
 -- ---- the first row, then the second
 
@@ -52,53 +47,53 @@ module _ (n : ℕ) (first second : List ℕ) where
   second_decides t = after_taken (is_known n ∷ tests) tests2 t ∙ sym (row_alone n second (row_taken n first t).0)
 
   -- both walks begin at the blocks that the first judge tells
-  pub both_walk : {j i : RowAnswer} {s s₂ : Sizes} {l l₂ : Layout} → j ≡ row_of n first → j ≡ rows.Fits s l → i ≡ row_of n second
-      → i ≡ rows.Fits s₂ l₂
+  pub both_walk : {j i : Result (Sizes × Layout) Refusal} {s s₂ : Sizes} {l l₂ : Layout} → j ≡ row_of n first → j ≡ Ok (s, l) → i ≡ row_of n second
+      → i ≡ Ok (s₂, l₂)
       → RowWalks l first 0 s.blocks × RowWalks l₂ second 0 s.blocks
   both_walk e q e₂ q₂ =
       let b = fits_blocks n first e q in
       (fits_walks n first e q _ b, fits_walks n second e₂ q₂ _ b)
 
 module _ (n mask size : ℕ) (first second : List ℕ) where
-  abbrev rows_shown : OrderAnswer
-  rows_shown = order_told (rows_order n mask size first second)
+  abbrev rows_shown : Result Ordering Refusal
+  rows_shown = Ok (rows_order n mask size first second)
 
   -- what a judge refuses, the order does
-  pub judged_first : {j : RowAnswer} {x : Refusal} → j ≡ row_of n first → j ≡ rows.Refused x
-      → orders.Refused x ≡ judged_of n mask size first second
+  pub judged_first : {j : Result (Sizes × Layout) Refusal} {x : Refusal} → j ≡ row_of n first → j ≡ Err x
+      → Err x ≡ judged_of n mask size first second
   unfolding judged_of
   judged_first e q =
       let t = row_refused n first e q in
-      refuses (λ x. orders.Refused x) rows_shown (t.0, first_decides n first second t.1, t.2)
+      refuses (λ x. Err x) rows_shown (t.0, first_decides n first second t.1, t.2)
 
-  module _ {j : RowAnswer} {s : Sizes} {l : Layout} (e : j ≡ row_of n first) (q : j ≡ rows.Fits s l) where
+  module _ {j : Result (Sizes × Layout) Refusal} {s : Sizes} {l : Layout} (e : j ≡ row_of n first) (q : j ≡ Ok (s, l)) where
     -- rows of the same bytes show one set
-    pub judged_same : first ≡ second → orders.Equal ≡ judged_of n mask size first second
+    pub judged_same : first ≡ second → (Ok Equal) ≡ judged_of n mask size first second
     unfolding judged_of rows_order
     judged_same h =
         let c : Config = config_at n in
         let fits = (row_told n first e q).0 in
-        takes (λ x. orders.Refused x) rows_shown (second_decides n first second fits ∙ ap (row_verdict n) (sym h) ∙ fits)
-        (ap order_told
+        takes (λ x. Err x) rows_shown (second_decides n first second fits ∙ ap (row_verdict n) (sym h) ∙ fits)
+        (ap Ok
         (sym (order_self (W c) mask size (shown_row c first))
         ∙ ap (λ (x : List ℕ). order_of (W c) mask size (shown_row c first) (shown_row c x)) h))
 
-    pub judged_second_lem : {i : RowAnswer} {x : Refusal} → i ≡ row_of n second → i ≡ rows.Refused x
-        → orders.Refused x ≡ judged_of n mask size first second
+    pub judged_second_lem : {i : Result (Sizes × Layout) Refusal} {x : Refusal} → i ≡ row_of n second → i ≡ Err x
+        → Err x ≡ judged_of n mask size first second
     unfolding judged_of
     judged_second_lem e₂ q₂ =
         let t = row_refused n second e₂ q₂ in
-        refuses (λ x. orders.Refused x) rows_shown (t.0, second_decides n first second (row_told n first e q).0 ∙ t.1, t.2)
+        refuses (λ x. Err x) rows_shown (t.0, second_decides n first second (row_told n first e q).0 ∙ t.1, t.2)
 
-    module _ {i : RowAnswer} {s₂ : Sizes} {l₂ : Layout} (e₂ : i ≡ row_of n second) (q₂ : i ≡ rows.Fits s₂ l₂) where
-      pub judged_done : {r : OrderAnswer} → r ≡ order_told (order_of (64 * s.blocks) mask size (row_set l first) (row_set l₂ second))
-          → r ≡ judged_of n mask size first second
+    module _ {i : Result (Sizes × Layout) Refusal} {s₂ : Sizes} {l₂ : Layout} (e₂ : i ≡ row_of n second) (q₂ : i ≡ Ok (s₂, l₂)) where
+      pub judged_done : {r : Ordering} → r ≡ order_of (64 * s.blocks) mask size (row_set l first) (row_set l₂ second)
+          → Ok r ≡ judged_of n mask size first second
       unfolding judged_of rows_order
       judged_done r =
-          takes (λ x. orders.Refused x) rows_shown (second_decides n first second (row_told n first e q).0 ∙ (row_told n second e₂ q₂).0)
+          takes (λ x. Err x) rows_shown (second_decides n first second (row_told n first e q).0 ∙ (row_told n second e₂ q₂).0)
+          (ap Ok
           (r
-          ∙ ap order_told
-          (order_same (64 * s.blocks) mask size (row_set l first) (row_set l₂ second) (shown_row (config_at n) first)
+          ∙ order_same (64 * s.blocks) mask size (row_set l first) (row_set l₂ second) (shown_row (config_at n) first)
           (shown_row (config_at n) second)
           (λ p h. fits_shows n first e q p) (λ p h. fits_shows n second e₂ q₂ p)
           ∙ ap (λ (x : ℕ). order_of x mask size (shown_row (config_at n) first) (shown_row (config_at n) second)) (fits_buckets n first e q)))
@@ -112,12 +107,12 @@ module _ (n mask size : ℕ) (first second : List ℕ) where
   abbrev row_tests : List Test
   row_tests = is_row_of (config_at n) first ++ is_row_of (config_at n) second
 
-  pub rows_unknown : {j : SizesAnswer} {x : Refusal} → j ≡ sizes_of n → j ≡ sizes.Refused x
-      → orders.Refused x ≡ cmp_rows_of n mask size first second
+  pub rows_unknown : {j : Result Sizes Refusal} {x : Refusal} → j ≡ sizes_of n → j ≡ Err x
+      → Err x ≡ cmp_rows_of n mask size first second
   unfolding cmp_rows_of rows_verdict
   rows_unknown {x = x} e q =
       let u = unknown_of n x (sym e ∙ q) in
-      refuses (λ x. orders.Refused x) (rows_shown n mask size first second)
+      refuses (λ x. Err x) (rows_shown n mask size first second)
       (because configuration, after_refused (is_known n ∷ []) (is_mask mask size ++ row_tests) (ap (λ (b : Bool). cond b taken (refused (because configuration))) u.0), u.1)
 
   -- where 1, 6 and 7 pass, the rows decide
@@ -127,19 +122,19 @@ module _ (n mask size : ℕ) (first second : List ℕ) where
       let t = known_taken n k in
       mask_passes mask size (is_known n ∷ []) row_tests t m ∙ sym (after_taken (is_known n ∷ []) row_tests t)
 
-  module _ {j : SizesAnswer} {s : Sizes} (e : j ≡ sizes_of n) (q : j ≡ sizes.Known s) {i : MaskAnswer} (m : i ≡ mask_of mask size) where
+  module _ {j : Result Sizes Refusal} {s : Sizes} (e : j ≡ sizes_of n) (q : j ≡ Ok s) {i : Result ⊤ Refusal} (m : i ≡ mask_of mask size) where
     is_known_lem : known n ≡ true
     is_known_lem = (known_of n s (sym e ∙ q)).0
 
-    pub rows_unmasked : {x : Refusal} → i ≡ masks.Refused x → orders.Refused x ≡ cmp_rows_of n mask size first second
+    pub rows_unmasked : {x : Refusal} → i ≡ Err x → Err x ≡ cmp_rows_of n mask size first second
     unfolding cmp_rows_of rows_verdict
     rows_unmasked {x} u =
         let t = mask_refused mask size x (sym m ∙ u) in
-        refuses (λ x. orders.Refused x) (rows_shown n mask size first second)
+        refuses (λ x. Err x) (rows_shown n mask size first second)
         (t.0, mask_decides mask size (is_known n ∷ []) row_tests (known_taken n is_known_lem) t.1, t.2)
 
-    pub rows_done : i ≡ masks.Fits → {block : ℕ} → block ≡ block_at (laid mask size) 0 → {r : OrderAnswer}
-        → r ≡ judged_of n block size first second
+    pub rows_done : i ≡ passing → {block len : ℕ} → (block ≡ block_at (laid mask size) 0) × (len ≡ size) → {r : Result Ordering Refusal}
+        → r ≡ judged_of n block len first second
         → r ≡ cmp_rows_of n mask size first second
     unfolding cmp_rows_of judged_of rows_order
     rows_done f l r =

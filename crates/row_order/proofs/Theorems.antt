@@ -6,7 +6,7 @@ use Prim.Native.Nat.{ℕ}
 use denote.Ref.{Bor}
 use Rattle.sets.specs.Sets.{Set}
 use Rattle.sets.specs.Configurations.{Config, W, known, config_at}
-use Rattle.sets.specs.Masks.{Ordering, less, equal, greater, first_wins, order_of}
+use Rattle.sets.specs.Masks.{first_wins, order_of}
 use Rattle.sets.specs.Row.{row, shown_row}
 use Rattle.sets.specs.Refusals.{Test, Verdict, taken, refused, verdict, answer, is_known, is_mask, is_row_of}
 use Rattle.sets.proofs.Configurations.{line_at}
@@ -19,15 +19,16 @@ use Rattle.diff_count.specs.declared.Filter.{Filter}
 use Rattle.diff_count.proofs.OfSets.{Of}
 use Rattle.masked.specs.Calls.{cmp_of}
 use Rattle.masked.specs.Inner.{order_answer}
-use Rattle.masked.specs.declared.OrderAnswer.{OrderAnswer}
-use Rattle.masked.specs.declared.OrderAnswer.TheVariants as orders
 use Rattle.masked.proofs.Theorems.{cmp_asked}
 use Rattle.row_order.specs.Calls.{Seen, cmp_rows_of, greater_of, rows_order, rows_verdict, seen}
 use Rattle.row_order.proofs.Asked.{known_taken}
+use Rattle.std.specs.Prelude.{Result, Ok, Err}
+use Rattle.std.specs.declared.cmp.Ordering.{Ordering}
+use Rattle.std.specs.declared.cmp.Ordering.TheVariants.{Less, Equal, Greater}
 
 -- ---- two answers that one promise allows coincide
 
-pub cmp_rows_once : (n mask size : ℕ) (first second : List ℕ) (r t : OrderAnswer) → r ≡ cmp_rows_of n mask size first second
+pub cmp_rows_once : (n mask size : ℕ) (first second : List ℕ) (r t : Result Ordering Refusal) → r ≡ cmp_rows_of n mask size first second
     → t ≡ cmp_rows_of n mask size first second
     → r ≡ t
 cmp_rows_once n mask size first second r t x y = x ∙ sym y
@@ -39,45 +40,45 @@ greater_once n mask size first second r t x y = x ∙ sym y
 
 -- ---- the order names the row that is handed back
 
-abbrev handed : OrderAnswer → Seen → Seen → Seen → Seen
-handed orders.Less first second none = second
-handed orders.Equal first second none = first
-handed orders.Greater first second none = first
-handed (orders.Refused r) first second none = none
+abbrev handed : Result Ordering Refusal → Seen → Seen → Seen → Seen
+handed (Ok Less) first second none = second
+handed (Ok Equal) first second none = first
+handed (Ok Greater) first second none = first
+handed (Err r) first second none = none
 
 handed_is : (v : Verdict) (o : Ordering) (first second none : Seen)
     → answer v (λ r. none) (cond (first_wins o) first second) ≡ handed (order_answer v o) first second none
-handed_is taken less first second none = refl
-handed_is taken equal first second none = refl
-handed_is taken greater first second none = refl
+handed_is taken Less first second none = refl
+handed_is taken Equal first second none = refl
+handed_is taken Greater first second none = refl
 handed_is (refused k) o first second none = refl
 
 module _ (n mask size : ℕ) (first second : Bor (List ℕ)) where
-  by_order : {a : OrderAnswer} → cmp_rows_of n mask size first.now second.now ≡ a
+  by_order : {a : Result Ordering Refusal} → cmp_rows_of n mask size first.now second.now ≡ a
       → greater_of n mask size first second ≡ handed a (seen first) (seen second) (first.ref_ptr, [])
   unfolding cmp_rows_of greater_of
   by_order e =
       handed_is (rows_verdict n mask size first.now second.now) (rows_order n mask size first.now second.now)
       (seen first) (seen second) (first.ref_ptr, [])
-      ∙ ap (λ (a : OrderAnswer). handed a (seen first) (seen second) (first.ref_ptr, [])) e
+      ∙ ap (λ (a : Result Ordering Refusal). handed a (seen first) (seen second) (first.ref_ptr, [])) e
 
-  pub greater_less : cmp_rows_of n mask size first.now second.now ≡ orders.Less → greater_of n mask size first second ≡ seen second
+  pub greater_less : cmp_rows_of n mask size first.now second.now ≡ (Ok Less) → greater_of n mask size first second ≡ seen second
   greater_less e = by_order e
 
-  pub greater_equal : cmp_rows_of n mask size first.now second.now ≡ orders.Equal → greater_of n mask size first second ≡ seen first
+  pub greater_equal : cmp_rows_of n mask size first.now second.now ≡ (Ok Equal) → greater_of n mask size first second ≡ seen first
   greater_equal e = by_order e
 
-  pub greater_greater : cmp_rows_of n mask size first.now second.now ≡ orders.Greater → greater_of n mask size first second ≡ seen first
+  pub greater_greater : cmp_rows_of n mask size first.now second.now ≡ (Ok Greater) → greater_of n mask size first second ≡ seen first
   greater_greater e = by_order e
 
-  pub greater_refused : {r : Refusal} → cmp_rows_of n mask size first.now second.now ≡ orders.Refused r
+  pub greater_refused : {r : Refusal} → cmp_rows_of n mask size first.now second.now ≡ Err r
       → greater_of n mask size first second ≡ (first.ref_ptr, [])
   greater_refused e = by_order e
 
 -- ---- the rows of sets
 
 -- the order of two sets, or the mask's refusal
-abbrev pub sets_order : Config → ℕ → ℕ → Set → Set → OrderAnswer
+abbrev pub sets_order : Config → ℕ → ℕ → Set → Set → Result Ordering Refusal
 sets_order c mask size S T = order_answer (verdict (is_mask mask size)) (order_of (W c) mask size S T)
 
 -- rows are ordered as the sets that have them

@@ -1,5 +1,5 @@
 -- What a step of a row reader gives, and the reader after it.
-use Rattle.std.specs.Prelude.{List, [], ◌∷◌, ℕ, zero, suc}
+use Rattle.std.specs.Prelude.{List, [], ◌∷◌, ℕ, zero, suc, Option, Some, None, Result, Ok, Err}
 use Rattle.std.specs.Borrow.{Bor}
 use Rattle.sets.specs.Sets.{members}
 use Rattle.sets.specs.Configurations.{W, config_at}
@@ -7,33 +7,30 @@ use Rattle.sets.specs.Masks.{Given, bucket, end, given, place_after}
 use Rattle.sets.specs.Row.{shown_row}
 use Rattle.sets.specs.Refusals.{answer}
 use Rattle.sizes.specs.Sizes.{refusal}
-use Rattle.bitvec.specs.declared.NextBucket.{NextBucket}
-use Rattle.bitvec.specs.declared.NextBucket.TheVariants.{At, Nothing}
 use Rattle.judge_row.specs.Judging.{row_verdict}
 use Rattle.row_reader.specs.declared.RowReader.{RowReader}
-use Rattle.row_reader.specs.declared.RowStep.{RowStep}
-use Rattle.row_reader.specs.declared.RowStep.TheVariants.{Bucket, End, Refused}
 use Rattle.row_reader.specs.declared.Stepped.{Stepped}
 use Rattle.row_reader.specs.declared.StepTaken.{StepTaken}
+use Rattle.sizes.specs.declared.Refusal.{Refusal}
 
 -- 01: "gives the buckets from largest to smallest, each once"; "at or past the set's size a step tells the end"
-abbrev pub given_told : Given → RowStep
-given_told (bucket p) = Bucket p
-given_told end = End
+abbrev pub given_told : Given → Result (Option ℕ) Refusal
+given_told (bucket p) = Ok (Some p)
+given_told end = Ok None
 
 -- 01: "A step on a row that no set has answers as opening it would"
-unfoldable pub step_answer : ℕ → List ℕ → ℕ → RowStep
+unfoldable pub step_answer : ℕ → List ℕ → ℕ → Result (Option ℕ) Refusal
 step_answer n bs place =
-    answer (row_verdict n bs) (λ r. Refused (refusal r)) (given_told (given (W (config_at n)) (shown_row (config_at n) bs) place))
+    answer (row_verdict n bs) (λ r. Err (refusal r)) (given_told (given (W (config_at n)) (shown_row (config_at n) bs) place))
 
 -- 01: "The place is the number of buckets already given"; at the end, and on a refusal, "the place stays"
 unfoldable pub step_place : ℕ → List ℕ → ℕ → ℕ
 step_place n bs place = answer (row_verdict n bs) (λ r. place) (place_after (W (config_at n)) (shown_row (config_at n) bs) place)
 
 -- what the walk finds at a place
-abbrev pub next_told : Given → NextBucket
-next_told (bucket p) = At p
-next_told end = Nothing
+abbrev pub next_told : Given → Option ℕ
+next_told (bucket p) = Some p
+next_told end = None
 
 -- a step on a row, a configuration and a place
 abbrev pub stepped_at : ℕ → List ℕ → ℕ → Stepped
@@ -62,7 +59,7 @@ abbrev pub buckets_of : ℕ → List ℕ → List ℕ
 buckets_of n bs = members (shown_row (config_at n) bs) (W (config_at n))
 
 -- the answers of so many steps, each from the reader that the one before handed back
-abbrev pub steps : ℕ → RowReader → List RowStep
+abbrev pub steps : ℕ → RowReader → List (Result (Option ℕ) Refusal)
 steps zero d = []
 steps (suc n) d = (step_of d).answer ∷ steps n (step_of d).reader
 

@@ -7,9 +7,7 @@ ghost use Rattle.sets.specs.Masks.{given_at};
 ghost use Rattle.bitchunks.specs.Rows.{RowWalks, row_set};
 ghost use Rattle.row_reader.specs.Reading.{next_told, reader_of, step_of, stepped_at};
 
-use bitchunks::{Layout, NextOne, Ones};
-use bitvec::NextBucket;
-use judge_row::RowAnswer;
+use bitchunks::{Ones, RowBlocks};
 use sizes::Refusal;
 
 #[derive(Clone, Copy)]
@@ -20,48 +18,32 @@ pub struct RowReader<'a> {
     pub place: usize,
 }
 
-#[derive(Clone, Copy)]
-pub enum RowStep {
-    Bucket(u32),
-    End,
-    Refused(Refusal),
-}
-
 // What a step gives, and the place after it.
 #[derive(Clone, Copy)]
 pub struct Stepped {
-    pub answer: RowStep,
+    pub answer: Result<Option<u32>, Refusal>,
     pub place: usize,
 }
 
 // What a step gives, and the reader after it.
 #[derive(Clone, Copy)]
 pub struct StepTaken<'a> {
-    pub answer: RowStep,
+    pub answer: Result<Option<u32>, Refusal>,
     pub reader: RowReader<'a>,
 }
 
 // The bucket at a place, counted from the largest, of a row of k blocks.
-fn bucket_at(row: &[u8], layout: Layout, k: usize, place: usize) -> NextBucket
-    requires { RowWalks layout row.now 0 k }
-    ensures { result ≡ next_told (given_at (members (row_set layout row.now) (64 * k)) place) }
+fn bucket_at(row: &RowBlocks, k: usize, place: usize) -> Option<usize>
+    requires { RowWalks row.now.layout row.now.row.now 0 k }
+    ensures { result ≡ next_told (given_at (members (row_set row.now.layout row.now.row.now) (64 * k)) place) }
 {
-    let mut left = place;
-    let mut at = Ones {
-        block: 0,
-        passed: 0,
-        end: k,
-    };
-    loop {
-        let NextOne::At(p, next) = bitchunks::next_row_one(row, layout, at) else {
-            return NextBucket::Nothing;
-        };
-        if left == 0 {
-            return NextBucket::At(p);
-        }
-        left -= 1;
+    let mut at = Ones::start(k);
+    for _ in 0..place {
+        let (_, next) = bitchunks::next_one(row, at)?;
         at = next;
     }
+    let (p, _) = bitchunks::next_one(row, at)?;
+    Some(p)
 }
 
 // A step on a row, a configuration and a place.
@@ -69,18 +51,18 @@ pub fn step_at(row: &[u8], config: u64, place: usize) -> Stepped
     ensures { result ≡ stepped_at config row.now place }
 {
     match judge_row::row(config, row) {
-        RowAnswer::Fits(s, layout) => match bucket_at(row, layout, s.blocks, place) {
-            NextBucket::At(p) => Stepped {
-                answer: RowStep::Bucket(p as u32),
+        Ok((s, layout)) => match bucket_at(&RowBlocks { row, layout }, s.blocks, place) {
+            Some(p) => Stepped {
+                answer: Ok(Some(p as u32)),
                 place: place + 1,
             },
-            NextBucket::Nothing => Stepped {
-                answer: RowStep::End,
+            None => Stepped {
+                answer: Ok(None),
                 place,
             },
         },
-        RowAnswer::Refused(r) => Stepped {
-            answer: RowStep::Refused(r),
+        Err(r) => Stepped {
+            answer: Err(r),
             place,
         },
     }
@@ -101,9 +83,8 @@ pub fn step<'a>(r: RowReader<'a>) -> StepTaken<'a>
     StepTaken {
         answer: next.answer,
         reader: RowReader {
-            row: r.row,
-            config: r.config,
             place: next.place,
+            ..r
         },
     }
 }

@@ -2,69 +2,61 @@
 // program writes a letter for each, y or n.
 #![tactic(auto)]
 
-use diff_count::Made;
-use examples::{blocks_are, cells_are, end_line, filter_of, is_filter, refusal_of, tell};
-use masked::OrderAnswer;
-use row_reader::RowStep;
-use rows::{OpenAnswer, WriteAnswer};
+use examples::{end_line, filter_of, is_filter, tell};
+use sizes::Refusal;
+use std::cmp::Ordering;
 use std::io;
 
 // ---- writing
 
-// Writes the row of the buckets listed, and tells its length, or 1000 and the number of the refusal.
-fn row_of(list: &[u32], to: &mut [u8]) -> usize {
+// Writes the row of the buckets listed, and tells its length.
+fn row_of(list: &[u32], to: &mut [u8]) -> Result<usize, Refusal> {
     let mut top = [0u32; 12];
     let mut blocks = [0u64; 130];
-    let Made::Ready(f) = filter_of(&mut top, &mut blocks, list) else {
-        return 1000;
-    };
-    match rows::write(f, &top, &blocks, to) {
-        WriteAnswer::Written(length) => length,
-        WriteAnswer::Refused(r) => 1000 + r.number as usize,
-    }
+    let f = filter_of(&mut top, &mut blocks, list)?;
+    rows::write(f, &top, &blocks, to)
 }
 
-// The size of the set that has the first n bytes for its row, or 1000 and the number of the refusal.
-fn opened(bytes: &[u8], n: usize) -> usize {
-    if bytes.len() < n {
-        return 1000;
-    }
-    match rows::open(7, &bytes[..n]) {
-        OpenAnswer::Size(size) => size,
-        OpenAnswer::Refused(r) => 1000 + r.number as usize,
-    }
+// The size of the set that has the first n bytes for its row.
+// n, since the bytes were lent for writing before.
+fn opened(bytes: &[u8], n: usize) -> Result<usize, Refusal> {
+    let row = bytes.get(..n).ok_or(Refusal::RowLength)?;
+    rows::open(7, row)
 }
 
 fn the_empty_row() -> bool {
     let mut to = [9u8; 4];
-    row_of(&[], &mut to) == 0 && to[0] == 9 && opened(&to, 0) == 0
+    row_of(&[], &mut to) == Ok(0) && to[0] == 9 && opened(&to, 0) == Ok(0)
 }
 
 fn a_full_list_down_to_bucket_0_has_no_bit_part() -> bool {
     let mut to = [9u8; 40];
     let list = [11u32, 10, 9, 8, 7, 6, 5, 4, 3, 2, 1, 0];
     let length = row_of(&list, &mut to);
-    length == 24 && to[0] == 11 && to[24] == 9 && opened(&to, 24) == 12
+    length == Ok(24) && to[0] == 11 && to[24] == 9 && opened(&to, 24) == Ok(12)
 }
 
 fn a_row_cut_at_24_bytes_is_refused() -> bool {
     let mut to = [9u8; 40];
     let list = [12u32, 11, 10, 9, 8, 7, 6, 5, 4, 3, 2, 1];
     let length = row_of(&list, &mut to);
-    length == 33 && opened(&to, 33) == 12 && opened(&to, 24) == 1005
+    length == Ok(33) && opened(&to, 33) == Ok(12) && opened(&to, 24) == Err(Refusal::NoSet)
 }
 
 fn a_row_cut_between_entries_is_another_row() -> bool {
     let mut to = [9u8; 40];
     let list = [12u32, 11, 10, 9, 8, 7, 6, 5, 4, 3, 2, 1];
     let length = row_of(&list, &mut to);
-    length == 33 && opened(&to, 22) == 11 && opened(&to, 2) == 1 && opened(&to, 0) == 0
+    length == Ok(33)
+        && opened(&to, 22) == Ok(11)
+        && opened(&to, 2) == Ok(1)
+        && opened(&to, 0) == Ok(0)
 }
 
 // The length of the row, its spare byte and the lowest byte of its blocks.
 fn bit_part_is(list: &[u32], length: usize, spare: u8, low: u8) -> bool {
     let mut to = [9u8; 48];
-    row_of(list, &mut to) == length && to[24] == spare && to[25] == low
+    row_of(list, &mut to) == Ok(length) && to[24] == spare && to[25] == low
 }
 
 fn the_thirteenth_is_a_bit() -> bool {
@@ -79,86 +71,76 @@ fn boundaries_64_and_65() -> bool {
     bit_part_is(&to_64, 33, 0, 0) && bit_part_is(&to_65, 41, 63, 0)
 }
 
-// A buffer that is too short is refused with 3, and stays as it was.
+// A buffer that is too short is refused, and stays as it was.
 fn a_short_buffer_stays() -> bool {
     let mut to = [9u8; 3];
-    row_of(&[6, 5], &mut to) == 1003 && to[0] == 9 && to[1] == 9 && to[2] == 9
+    row_of(&[6, 5], &mut to) == Err(Refusal::Room) && to == [9; 3]
 }
 
 // ---- reading
-
-// The number of the refusal, 0 where the row was read.
-fn read_refusal(config: u64, row: &[u8]) -> u8 {
-    let mut top = [7u32; 12];
-    let mut blocks = [7u64; 130];
-    refusal_of(rows::read(config, row, &mut top, &mut blocks))
-}
 
 fn two_entries_are_read() -> bool {
     let mut top = [7u32; 12];
     let mut blocks = [7u64; 130];
     let made = rows::read(7, &[6, 0, 5, 0], &mut top, &mut blocks);
-    is_filter(made, 2, 0) && cells_are(&top, &[6, 5, 0]) && blocks[0] == 0
+    is_filter(made, 2, 0) && top.starts_with(&[6, 5, 0]) && blocks[0] == 0
+}
+
+fn is_refused(config: u64, row: &[u8], refusal: Refusal) -> bool {
+    let mut top = [7u32; 12];
+    let mut blocks = [7u64; 130];
+    matches!(rows::read(config, row, &mut top, &mut blocks), Err(r) if r == refusal)
 }
 
 fn rows_that_no_set_has() -> bool {
-    read_refusal(8, &[5, 0]) == 1
-        && read_refusal(10, &[5, 0, 0, 0]) == 3
-        && read_refusal(7, &[5]) == 4
-        && read_refusal(7, &[128, 32]) == 2
-        && read_refusal(7, &[5, 0, 6, 0]) == 5
+    is_refused(8, &[5, 0], Refusal::Configuration)
+        && is_refused(10, &[5, 0, 0, 0], Refusal::Room)
+        && is_refused(7, &[5], Refusal::RowLength)
+        && is_refused(7, &[128, 32], Refusal::Range)
+        && is_refused(7, &[5, 0, 6, 0], Refusal::NoSet)
 }
 
 // The range of all entries is judged before their order.
 fn two_before_five() -> bool {
-    read_refusal(7, &[5, 0, 6, 0, 255, 255]) == 2
-}
-
-// Whether a row is that of the buckets 13 down to 1.
-fn thirteen_are_read(row: &[u8]) -> bool {
-    let mut top = [7u32; 12];
-    let mut blocks = [7u64; 130];
-    let made = rows::read(7, row, &mut top, &mut blocks);
-    is_filter(made, 12, 2)
-        && cells_are(&top, &[13, 12, 11, 10, 9, 8, 7, 6, 5, 4, 3, 2])
-        && blocks_are(&blocks, &[2, 0, 0])
+    is_refused(7, &[5, 0, 6, 0, 255, 255], Refusal::Range)
 }
 
 fn written_and_read_back() -> bool {
     let mut to = [0u8; 33];
+    let mut top = [7u32; 12];
+    let mut blocks = [7u64; 130];
     let list = [13u32, 12, 11, 10, 9, 8, 7, 6, 5, 4, 3, 2, 1];
-    row_of(&list, &mut to) == 33 && thirteen_are_read(&to)
+    let length = row_of(&list, &mut to);
+    let made = rows::read(7, &to, &mut top, &mut blocks);
+    length == Ok(33)
+        && is_filter(made, 12, 2)
+        && top == [13, 12, 11, 10, 9, 8, 7, 6, 5, 4, 3, 2]
+        && blocks.starts_with(&[2, 0, 0])
 }
 
 // ---- two rows
 
-// 1, 2 or 3 for less, equal and greater; or 1000 and the number of the refusal.
-fn order_of(mask: u64, size: usize, first: &[u8], second: &[u8]) -> usize {
-    match row_order::cmp_rows(7, mask, size, first, second) {
-        OrderAnswer::Less => 1,
-        OrderAnswer::Equal => 2,
-        OrderAnswer::Greater => 3,
-        OrderAnswer::Refused(r) => 1000 + r.number as usize,
-    }
-}
-
 fn the_order_of_two_rows() -> bool {
-    order_of(1, 1, &[5, 0], &[5, 0, 0, 0]) == 1
-        && order_of(0, 1, &[5, 0], &[5, 0, 0, 0]) == 2
-        && order_of(8, 3, &[5], &[]) == 1007
+    let one = [5u8, 0];
+    let two = [5u8, 0, 0, 0];
+    row_order::cmp_rows(7, 1, 1, &one, &two) == Ok(Ordering::Less)
+        && row_order::cmp_rows(7, 0, 1, &one, &two) == Ok(Ordering::Equal)
+        && row_order::cmp_rows(7, 8, 3, &[5], &[]) == Err(Refusal::MaskBits)
 }
 
 fn the_first_row_is_judged_first() -> bool {
-    order_of(1, 1, &[5, 0, 5, 0], &[5]) == 1005 && order_of(1, 1, &[5], &[5, 0, 5, 0]) == 1004
+    let twice = [5u8, 0, 5, 0];
+    row_order::cmp_rows(7, 1, 1, &twice, &[5]) == Err(Refusal::NoSet)
+        && row_order::cmp_rows(7, 1, 1, &[5], &twice) == Err(Refusal::RowLength)
 }
 
 fn the_greater_row_itself() -> bool {
     let one = [5u8, 0];
     let two = [5u8, 0, 0, 0];
-    row_order::greater_row(7, 1, 1, &one, &two).len() == 4
-        && row_order::greater_row(7, 1, 1, &two, &one).len() == 4
-        && row_order::greater_row(7, 0, 1, &one, &two).len() == 2
-        && row_order::greater_row(7, 8, 3, &two, &one).len() == 0
+    row_order::greater_row(7, 1, 1, &one, &two) == two.as_slice()
+        && row_order::greater_row(7, 1, 1, &two, &one) == two.as_slice()
+        && row_order::greater_row(7, 0, 1, &one, &two) == one.as_slice()
+        && row_order::greater_row(7, 8, 3, &two, &one).is_empty()
 }
 
 // ---- stepping
@@ -166,32 +148,17 @@ fn the_greater_row_itself() -> bool {
 // A place holds that bucket, and then comes the next place.
 fn gives(row: &[u8], place: usize, bucket: u32, next: usize) -> bool {
     let step = row_reader::step_at(row, 7, place);
-    let answer = step.answer;
-    match answer {
-        RowStep::Bucket(p) => p == bucket && step.place == next,
-        RowStep::End => false,
-        RowStep::Refused(_) => false,
-    }
+    step.answer == Ok(Some(bucket)) && step.place == next
 }
 
 fn ends(row: &[u8], place: usize) -> bool {
     let step = row_reader::step_at(row, 7, place);
-    let answer = step.answer;
-    match answer {
-        RowStep::Bucket(_) => false,
-        RowStep::End => step.place == place,
-        RowStep::Refused(_) => false,
-    }
+    step.answer == Ok(None) && step.place == place
 }
 
-fn refuses(row: &[u8], config: u64, place: usize, number: u8) -> bool {
+fn refuses(row: &[u8], config: u64, place: usize, refusal: Refusal) -> bool {
     let step = row_reader::step_at(row, config, place);
-    let answer = step.answer;
-    match answer {
-        RowStep::Bucket(_) => false,
-        RowStep::End => false,
-        RowStep::Refused(r) => r.number == number && step.place == place,
-    }
+    step.answer == Err(refusal) && step.place == place
 }
 
 fn stepping_through_a_row() -> bool {
@@ -201,7 +168,7 @@ fn stepping_through_a_row() -> bool {
 
 fn stepping_on_a_row_that_no_set_has() -> bool {
     let row = [5u8, 0, 5, 0];
-    refuses(&row, 7, 1, 5) && refuses(&row, 8, 1, 1)
+    refuses(&row, 7, 1, Refusal::NoSet) && refuses(&row, 8, 1, Refusal::Configuration)
 }
 
 fn main(rt: HostRuntime) -> io::Result<()> {

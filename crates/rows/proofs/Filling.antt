@@ -1,7 +1,6 @@
 -- The filter of the set that has a row, in two areas: the entries and the blocks of the row, and zeros behind them. Assumes nothing.
 use mathlib.Core.Path.{◌≡◌, sym, ap, ap₂, ◌∙◌, subst}
 use mathlib.Core.Bool.{false, ◌||◌}
-use mathlib.Core.Logic.{◌⊎◌, ⊎_elim}
 use mathlib.Core.List.{List}
 use Prim.Native.Nat.{ℕ, ◌-◌, ◌*◌, ◌/◌, ◌%◌, ◌^◌, ◌≤◌, ◌<◌}
 use native.Mathlib.Decide.{dec_lt}
@@ -23,19 +22,23 @@ use Rattle.sets.proofs.Words.{held_zero}
 use Rattle.bitvec.specs.Cells.{zeroed}
 use Rattle.bitvec.specs.Parts.{Becomes, Room}
 use Rattle.bitvec.proofs.Filling.{filled_rest, later_rest, zeroed_is, zeroed_first, zeroed_rest, length_zeroed}
-use Rattle.bitchunks.specs.Rows.{blocks, edge_in, entries}
+use Rattle.bitchunks.specs.Rows.{blocks, edge_in, entries, width_bytes}
+use Rattle.bitchunks.specs.declared.Width.{Width}
+use Rattle.bitchunks.specs.declared.Width.TheVariants.{Two, Four}
 use Rattle.bitchunks.specs.declared.Layout.{Layout}
 use Rattle.rows.specs.Inner.{Readable, set_in}
 
 -- an entry fits a cell of the top area
-pub entry_small : {w : ℕ} → (w ≡ 2) ⊎ (w ≡ 4) → (row : List ℕ) → Bytes row → (at : ℕ) {v : ℕ} → v ≡ little (take w (drop at row))
-    → v < 2 ^ 32
-entry_small {w} width row b at {v} e =
-    let bs : List ℕ = take w (drop at row) in
-    let l : 8 * length bs ≤ 32 =
-    omega (arith, length-take w (drop at row), ⊎_elim {C = w ≤ 4} (λ x. omega arith) (λ x. omega arith) width) in
+bytes_few : (w : Width) → width_bytes w ≤ 4
+bytes_few Two = omega arith
+bytes_few Four = omega arith
+
+pub entry_small : (w : Width) (row : List ℕ) → Bytes row → (at : ℕ) {v : ℕ} → v ≡ little (take (width_bytes w) (drop at row)) → v < 2 ^ 32
+entry_small w row b at {v} e =
+    let bs : List ℕ = take (width_bytes w) (drop at row) in
+    let l : 8 * length bs ≤ 32 = omega (arith, length-take (width_bytes w) (drop at row), bytes_few w) in
     subst (λ (x : ℕ). x < 2 ^ 32) (sym e)
-    (lt_of_lt_of_le (little_lt bs (below_take w (drop at row) 256 (below_drop at row 256 b))) (pow_mono l))
+    (lt_of_lt_of_le (little_lt bs (below_take (width_bytes w) (drop at row) 256 (below_drop at row 256 b))) (pow_mono l))
 
 -- ---- cells, and zeros behind them up to the cell b
 
@@ -100,7 +103,7 @@ module _ {s : Layout} {m k : ℕ} {row top₀ blocks₀ : List ℕ} (room : Room
 
   module _ {top₁ top : List ℕ} (f : top₁ ≡ filled (entries s row) s.count top₀) (z : top ≡ zeroed s.count m top₁) where
     length_tops : length tops ≡ s.count
-    length_tops = length_numbers s.width s.count row
+    length_tops = length_numbers (width_bytes s.width) s.count row
 
     top_is_lem : Padded tops s.count m top₀ top
     top_is_lem = padded tops length_tops R.few room.cells (z ∙ ap (zeroed s.count m) f)

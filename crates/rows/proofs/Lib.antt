@@ -1,4 +1,3 @@
-pub mod Entries
 pub mod Writing
 pub mod Filling
 pub mod Opening

@@ -26,8 +26,6 @@ use Rattle.sets.proofs.Verdicts.{after_taken, after_refused}
 use Rattle.sizes.specs.Sizes.{sizes_at, refusal}
 use Rattle.sizes.specs.declared.Sizes.{Sizes}
 use Rattle.sizes.specs.declared.Refusal.{Refusal}
-use Rattle.sizes.specs.declared.SizesAnswer.{SizesAnswer}
-use Rattle.sizes.specs.declared.SizesAnswer.TheVariants as sizes
 use Rattle.sets.proofs.Lists.{sets_append}
 use Rattle.judge.specs.Judging.{filter_of}
 use Rattle.judge.proofs.Verdicts.{filter_told, refuses, takes}
@@ -36,37 +34,43 @@ use Rattle.diff_count.specs.Calls.{shown_by}
 use Rattle.diff_count.specs.declared.Filter.{Filter}
 use Rattle.diff_count.proofs.Told.{One, one}
 use Rattle.rows.specs.Calls.{Writes, row_by, write_verdict}
-use Rattle.rows.specs.declared.WriteAnswer.TheVariants as writes
+use Rattle.std.specs.Prelude.{Result, Ok, Err}
 
 -- ---- a filter that can be written
 
-pub record Writable (f : Filter) (top bits : List ℕ) (s : Sizes) : Type 0 where
+-- an entry has 2 or 4 bytes
+pub entry_wide : (f : Filter) (top bits : List ℕ) {s : Sizes} {r : Result Sizes Refusal} → r ≡ filter_of f.config (tally_of f) top bits
+    → r ≡ Ok s → (s.entry ≡ 2) ⊎ (s.entry ≡ 4)
+unfolding sizes_at
+entry_wide f top bits {s} e q =
+    subst (λ (x : Sizes). (x.entry ≡ 2) ⊎ (x.entry ≡ 4)) (sym (filter_told f.config (tally_of f) top bits s (sym e ∙ q)).1) (entry_width f.config)
+
+pub record Writable (f : Filter) (top bits : List ℕ) (s : Sizes) (w : ℕ) : Type 0 where
   pub told : One f top bits s
-  pub entry_is : s.entry ≡ (config_at f.config).entry
-  pub width : (s.entry ≡ 2) ⊎ (s.entry ≡ 4)
+  pub entry_is : w ≡ (config_at f.config).entry
   pub cells : f.count ≤ length top
-  pub short : f.count * s.entry ≤ 2 ^ 32
+  pub short : f.count * w ≤ 2 ^ 32
   pub low : f.boundary ≤ 2 ^ 32
-  pub fit : Below (2 ^ (8 * s.entry)) (take f.count top)
+  pub fit : Below (2 ^ (8 * w)) (take f.count top)
   pub blocks_in : blocks_for f.boundary ≤ length bits
   pub clear : Empty (held bits) f.boundary (64 * blocks_for f.boundary)
 
 module _ (f : Filter) (top bits : List ℕ) (s : Sizes) where
-  pub writable : {r : SizesAnswer} → r ≡ filter_of f.config (tally_of f) top bits → r ≡ sizes.Known s → Writable f top bits s
+  pub writable : {r : Result Sizes Refusal} → r ≡ filter_of f.config (tally_of f) top bits → r ≡ Ok s
+      → {w : ℕ} → w ≡ s.entry → Writable f top bits s w
   unfolding sizes_at
-  writable e q =
+  writable e q {w} v =
       let O = one f top bits s e q in
       let F = O.fits in
       let H = F.holds in
-      let z : s.entry ≡ (config_at f.config).entry =
-      ap (λ (x : Sizes). x.entry) (filter_told f.config (tally_of f) top bits s (sym e ∙ q)).1 in
-      let t : s.top * s.entry ≡ top_bytes (config_at f.config) = ap₂ ◌*◌ O.sizes.tops z in
+      let z : w ≡ (config_at f.config).entry =
+      v ∙ ap (λ (x : Sizes). x.entry) (filter_told f.config (tally_of f) top bits s (sym e ∙ q)).1 in
+      let t : s.top * w ≡ top_bytes (config_at f.config) = ap₂ ◌*◌ O.sizes.tops z in
       record {
         told = O;
         entry_is = z;
-        width = subst (λ (x : ℕ). (x ≡ 2) ⊎ (x ≡ 4)) (sym z) (entry_width f.config);
         cells = count_fits H;
-        short = omega (arith, t, mul-le-mul_right s.entry F.few, (line_at f.config).short);
+        short = omega (arith, t, mul-le-mul_right w F.few, (line_at f.config).short);
         low = omega (arith, F.low, F.room.small);
         fit = subst (λ (x : ℕ). Below (2 ^ (8 * x)) (take f.count top)) (sym z)
             (λ i h. omega (arith, holds_below H i h, O.sizes.buckets, w_entry (config_at f.config) (line_at f.config).sound));
@@ -76,9 +80,9 @@ module _ (f : Filter) (top bits : List ℕ) (s : Sizes) where
 
 -- ---- the row, and the bytes left
 
-module _ {f : Filter} {top bits : List ℕ} {s : Sizes} (R : Writable f top bits s) where
+module _ {f : Filter} {top bits : List ℕ} {s : Sizes} {w : ℕ} (R : Writable f top bits s w) where
   abbrev entry_bytes : List ℕ
-  entry_bytes = bytes_of s.entry (take f.count top)
+  entry_bytes = bytes_of w (take f.count top)
 
   abbrev part : List ℕ
   part = bit_part f.boundary (held bits)
@@ -108,17 +112,17 @@ module _ {f : Filter} {top bits : List ℕ} {s : Sizes} (R : Writable f top bits
       ap₂ ◌++◌ (ap₂ bytes_of (sym R.entry_is) tops_are)
       (ap (λ (e : ℕ). bit_part e S) edge_is_lem ∙ bit_part_same f.boundary S (held bits) bits_agree)
 
-  entries_length : length entry_bytes ≡ f.count * s.entry
-  entries_length = length_bytes_of s.entry (take f.count top) ∙ ap (λ (x : ℕ). x * s.entry) (length-take-le f.count top R.cells)
+  entries_length : length entry_bytes ≡ f.count * w
+  entries_length = length_bytes_of w (take f.count top) ∙ ap (λ (x : ℕ). x * w) (length-take-le f.count top R.cells)
 
-  row_long : length (row_by f top bits) ≡ f.count * s.entry + length part
+  row_long : length (row_by f top bits) ≡ f.count * w + length part
   row_long = ap length row_is_lem ∙ length-append entry_bytes part ∙ ap (λ (x : ℕ). x + length part) entries_length
 
   -- entries, and the bit part after them
   row_left : (to : List ℕ) → length (row_by f top bits) ≤ length to
-      → sets (sets to 0 entry_bytes) (f.count * s.entry) part ≡ filled (row_by f top bits) (length (row_by f top bits)) to
+      → sets (sets to 0 entry_bytes) (f.count * w) part ≡ filled (row_by f top bits) (length (row_by f top bits)) to
   row_left to h =
-      let n : 0 + length entry_bytes ≡ f.count * s.entry = omega (arith, entries_length) in
+      let n : 0 + length entry_bytes ≡ f.count * w = omega (arith, entries_length) in
       let z : 0 + length (row_by f top bits) ≡ length (row_by f top bits) = omega arith in
       ap (λ (x : ℕ). sets (sets to 0 entry_bytes) x part) (sym n)
       ∙ sym (sets_append to 0 entry_bytes part)
@@ -139,22 +143,24 @@ module _ (f : Filter) (top bits to : List ℕ) where
   abbrev left_by : Verdict → List ℕ
   left_by v = answer v (λ n. to) (filled (row_by f top bits) (length (row_by f top bits)) to)
 
-  not_written : {x : Refusal} → ((k : Cause) × (write_verdict f top bits to ≡ refused k) × (x ≡ refusal k))
-      → Writes f top bits to (writes.Refused x) to
-  not_written w =
+  not_written : {x : Refusal} {r : Result ℕ Refusal} → r ≡ Err x
+      → ((k : Cause) × (write_verdict f top bits to ≡ refused k) × (x ≡ refusal k))
+      → Writes f top bits to r to
+  not_written h w =
       record {
-        answers = refuses (λ x. writes.Refused x) _ w;
+        answers = h ∙ refuses (λ x. Err x) _ w;
         bytes = ap left_by (sym w.1);
       }
 
   -- what the judge refuses, the call does
-  pub write_refused : {x : Refusal} → ((k : Cause) × (first_failing lent ≡ refused k) × (x ≡ refusal k))
-      → Writes f top bits to (writes.Refused x) to
+  pub write_refused : {x : Refusal} {r : Result ℕ Refusal} → r ≡ Err x
+      → ((k : Cause) × (first_failing lent ≡ refused k) × (x ≡ refusal k))
+      → Writes f top bits to r to
   unfolding write_verdict
-  write_refused w = not_written (w.0, after_refused lent last_test w.1, w.2)
+  write_refused h w = not_written h (w.0, after_refused lent last_test w.1, w.2)
 
-  module _ {s : Sizes} (R : Writable f top bits s) {len : ℕ}
-      (e : len ≡ f.count * s.entry + cond (eqb f.boundary 0) 0 (1 + 8 * blocks_for f.boundary)) where
+  module _ {s : Sizes} {w : ℕ} (R : Writable f top bits s w) {len : ℕ}
+      (e : len ≡ f.count * w + cond (eqb f.boundary 0) 0 (1 + 8 * blocks_for f.boundary)) where
     len_is : len ≡ length (row_by f top bits)
     len_is = omega (arith, e, row_long R, length_bit_part f.boundary (held bits))
 
@@ -163,19 +169,19 @@ module _ (f : Filter) (top bits to : List ℕ) where
     unfolding write_verdict
     by_buffer = after_taken lent last_test R.told.taken_is
 
-    pub write_short : length to < len → Writes f top bits to (writes.Refused (refusal (because buffer))) to
+    pub write_short : length to < len → Writes f top bits to (Err (refusal (because buffer))) to
     write_short h =
         let l : length to < length (row_by f top bits) = omega (arith, len_is) in
-        not_written (because buffer, by_buffer ∙ ap (λ (b : Bool). cond b taken (refused (because buffer))) (lt-leb _ _ l), refl)
+        not_written refl (because buffer, by_buffer ∙ ap (λ (b : Bool). cond b taken (refused (because buffer))) (lt-leb _ _ l), refl)
 
-    pub write_done : {r : ℕ} {to₁ to₂ : List ℕ} → len ≤ length to → to₁ ≡ sets to 0 (entry_bytes R)
-        → r ≡ f.count * s.entry + length (part R)
-        → to₂ ≡ sets to₁ (f.count * s.entry) (part R) → Writes f top bits to (writes.Written r) to₂
-    write_done {r} {to₁} {to₂} h x y z =
+    pub write_done : {start r : ℕ} {to₁ to₂ : List ℕ} → len ≤ length to → to₁ ≡ sets to 0 (entry_bytes R)
+        → start ≡ f.count * w → r ≡ start + length (part R)
+        → to₂ ≡ sets to₁ start (part R) → Writes f top bits to (Ok r) to₂
+    write_done {start} {r} {to₁} {to₂} h x a y z =
         let row = row_by f top bits in
         let l : length row ≤ length to = omega (arith, len_is) in
         let t = by_buffer ∙ ap (λ (b : Bool). cond b taken (refused (because buffer))) (le-leb _ _ l) in
         record {
-          answers = takes (λ x. writes.Refused x) (writes.Written (length row)) t (ap (λ (n : ℕ). writes.Written n) (y ∙ sym (row_long R)));
-          bytes = z ∙ ap (λ (l : List ℕ). sets l (f.count * s.entry) (part R)) x ∙ row_left R to l ∙ ap left_by (sym t);
+          answers = takes (λ x. Err x) (Ok (length row)) t (ap (λ (n : ℕ). Ok n) (y ∙ ap (λ (n : ℕ). n + length (part R)) a ∙ sym (row_long R)));
+          bytes = z ∙ ap₂ (λ (l : List ℕ) (n : ℕ). sets l n (part R)) x a ∙ row_left R to l ∙ ap left_by (sym t);
         }

@@ -1,5 +1,5 @@
 -- The calls on one row: what each judges, and what it answers and leaves.
-use Rattle.std.specs.Prelude.{◌≡◌, List, [], ◌∷◌, ◌++◌, ℕ, length}
+use Rattle.std.specs.Prelude.{◌≡◌, List, [], ◌∷◌, ◌++◌, ℕ, length, Result, Ok, Err}
 use Rattle.sets.specs.Configurations.{config_at}
 use Rattle.sets.specs.Filter.{exact_count_at, filled}
 use Rattle.sets.specs.Row.{row, shown_row}
@@ -9,11 +9,7 @@ use Rattle.judge_row.specs.Judging.{row_verdict}
 use Rattle.diff_count.specs.Making.{Makes, record_in}
 use Rattle.diff_count.specs.Calls.{shown_by}
 use Rattle.diff_count.specs.declared.Filter.{Filter}
-use Rattle.diff_count.specs.declared.Made.{Made}
-use Rattle.rows.specs.declared.WriteAnswer.{WriteAnswer}
-use Rattle.rows.specs.declared.WriteAnswer.TheVariants as writes
-use Rattle.rows.specs.declared.OpenAnswer.{OpenAnswer}
-use Rattle.rows.specs.declared.OpenAnswer.TheVariants as opens
+use Rattle.sizes.specs.declared.Refusal.{Refusal}
 
 -- the row of the set that a filter shows
 unfoldable pub row_by : Filter → List ℕ → List ℕ → List ℕ
@@ -24,17 +20,17 @@ unfoldable pub write_verdict : Filter → List ℕ → List ℕ → List ℕ →
 write_verdict f top bits to = verdict (filter_lent (record_in f) top bits ++ (holds_row (row_by f top bits) to ∷ []))
 
 -- 01: "Writing answers the row's length; bytes after it are untouched."
-pub record Writes (f : Filter) (top bits to : List ℕ) (r : WriteAnswer) (to' : List ℕ) : Type 0 where
-  pub answers : r ≡ answer (write_verdict f top bits to) (λ n. writes.Refused (refusal n)) (writes.Written (length (row_by f top bits)))
+pub record Writes (f : Filter) (top bits to : List ℕ) (r : Result ℕ Refusal) (to' : List ℕ) : Type 0 where
+  pub answers : r ≡ answer (write_verdict f top bits to) (λ n. Err (refusal n)) (Ok (length (row_by f top bits)))
   pub bytes : to' ≡ answer (write_verdict f top bits to) (λ n. to) (filled (row_by f top bits) (length (row_by f top bits)) to)
 
 -- 01: "Reading accepts exactly the rows of sets, and gives the record and areas of the set that has the row."
 unfoldable pub read_verdict : ℕ → List ℕ → List ℕ → List ℕ → Verdict
 read_verdict n bs top bits = verdict (areas_lent n (length top) (length bits) ++ is_row_of (config_at n) bs)
 
-abbrev pub Reads : ℕ → List ℕ → List ℕ → List ℕ → Made → List ℕ → List ℕ → Type 0
+abbrev pub Reads : ℕ → List ℕ → List ℕ → List ℕ → Result Filter Refusal → List ℕ → List ℕ → Type 0
 Reads n bs top bits = Makes (read_verdict n bs top bits) (config_at n) (shown_row (config_at n) bs) top bits
 
 -- 01: "Opening judges the row as reading does"; it answers the size of the set that has the row
-unfoldable pub open_of : ℕ → List ℕ → OpenAnswer
-open_of n bs = answer (row_verdict n bs) (λ r. opens.Refused (refusal r)) (opens.Size (exact_count_at (config_at n) (shown_row (config_at n) bs)))
+unfoldable pub open_of : ℕ → List ℕ → Result ℕ Refusal
+open_of n bs = answer (row_verdict n bs) (λ r. Err (refusal r)) (Ok (exact_count_at (config_at n) (shown_row (config_at n) bs)))

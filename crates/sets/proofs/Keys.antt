@@ -10,12 +10,14 @@ use lib.ListN.{get_or, drop, take}
 use lib.Pow.{pow_pos, pow-add, shr_lt, shr_mono}
 use Rattle.sets.specs.Sets.{Agree, Below, Falls, Set, members}
 use Rattle.sets.specs.Configurations.{Config, W, position_bits, whole_slots, leftover_bits}
-use Rattle.sets.specs.Masks.{Ordering, less, equal, greater, kept, key_of, order_of, packed, slots_fit}
+use Rattle.sets.specs.Masks.{kept, key_of, order_of, packed, slots_fit}
 use Rattle.sets.proofs.Configurations.{w_lt}
 use Rattle.sets.proofs.Laws.{members_fall, members_same, falls_at, falls_take}
 use Rattle.sets.proofs.Masks.{kept_same}
 use Rattle.sets.proofs.Order.{Leads, opposite, order_swap, order_told_lem}
 use Rattle.sets.proofs.Tests.{below_all}
+use Rattle.std.specs.declared.cmp.Ordering.{Ordering}
+use Rattle.std.specs.declared.cmp.Ordering.TheVariants.{Less, Equal, Greater}
 
 head_lt : {n : ℕ} (ps : List ℕ) → 0 < n → Below n ps → get_or ps 0 0 < n
 head_lt [] z h = z
@@ -104,28 +106,28 @@ module _ (c : Config) where
         subst (λ (x : ℕ). key_of c mask size S < 2 ^ x) (div-add-mod' 64 (position_bits c))
         (packed_lt (position_bits c) (leftover_bits c) leftover_fits (whole_slots c) (members (kept mask size S) (W c)) (kept_below S))
 
-    pub equal_key : (S T : Set) → order_of (W c) mask size S T ≡ equal → key_of c mask size S ≡ key_of c mask size T
+    pub equal_key : (S T : Set) → order_of (W c) mask size S T ≡ Equal → key_of c mask size S ≡ key_of c mask size T
     unfolding key_of
     equal_key S T e =
         ap (packed (position_bits c) (leftover_bits c) (whole_slots c))
-        (members_same (kept mask size S) (kept mask size T) (W c) (order_told_lem (W c) mask size S T equal e))
+        (members_same (kept mask size S) (kept mask size T) (W c) (order_told_lem (W c) mask size S T Equal e))
 
     -- under one mask a greater filter never has a smaller key
-    pub greater_key : (S T : Set) → order_of (W c) mask size S T ≡ greater → key_of c mask size T ≤ key_of c mask size S
+    pub greater_key : (S T : Set) → order_of (W c) mask size S T ≡ Greater → key_of c mask size T ≤ key_of c mask size S
     unfolding key_of
     greater_key S T e =
-        let t = order_told_lem (W c) mask size S T greater e in
+        let t = order_told_lem (W c) mask size S T Greater e in
         packed_mono (position_bits c) (leftover_bits c) leftover_fits (W c) (kept mask size S) (kept mask size T) t.0
         (omega (arith, w_lt c)) t.1 (whole_slots c)
 
     -- so keys that differ decide the order
-    pub key_greater : (S T : Set) → key_of c mask size T < key_of c mask size S → order_of (W c) mask size S T ≡ greater
+    pub key_greater : (S T : Set) → key_of c mask size T < key_of c mask size S → order_of (W c) mask size S T ≡ Greater
     key_greater S T h = go (order_of (W c) mask size S T) refl
       where
-        go : (o : Ordering) → order_of (W c) mask size S T ≡ o → o ≡ greater
-        go less e = absurd (omega (arith, greater_key T S (order_swap (W c) mask size S T ∙ ap opposite e)))
-        go equal e = absurd (omega (arith, equal_key S T e))
-        go greater e = refl
+        go : (o : Ordering) → order_of (W c) mask size S T ≡ o → o ≡ Greater
+        go Less e = absurd (omega (arith, greater_key T S (order_swap (W c) mask size S T ∙ ap opposite e)))
+        go Equal e = absurd (omega (arith, equal_key S T e))
+        go Greater e = refl
 
 -- every bucket is below W, and so fits its slot
 pub slots_fit_lem : (c : Config) (mask size : ℕ) (S : Set) → slots_fit c mask size S ≡ true

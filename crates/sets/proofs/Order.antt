@@ -5,9 +5,11 @@ use Prim.Native.Nat.{ℕ, zero, suc, ◌<◌}
 use native.Mathlib.Decide.{dec_lt, ℕ_discrete}
 use native.Mathlib.Omega.{arith}
 use Rattle.sets.specs.Sets.{Agree, Set, apart, differ}
-use Rattle.sets.specs.Masks.{Ordering, less, equal, greater, holder, kept, order_of}
+use Rattle.sets.specs.Masks.{holder, kept, order_of}
 use Rattle.sets.proofs.Laws.{differ_self, members_head, members_none}
 use Rattle.sets.proofs.Masks.{kept_apart_at, kept_laid, kept_at, kept_same}
+use Rattle.std.specs.declared.cmp.Ordering.{Ordering}
+use Rattle.std.specs.declared.cmp.Ordering.TheVariants.{Less, Equal, Greater}
 
 -- ---- two sets, seen from the top
 
@@ -20,9 +22,9 @@ pub record Leads (n : ℕ) (A B : Set) (p : ℕ) : Type 0 where
 
 -- what each answer tells of A and B
 abbrev pub Told : Ordering → ℕ → Set → Set → Type 0
-Told less n A B = (p : ℕ) × Leads n B A p
-Told equal n A B = Agree n A B
-Told greater n A B = (p : ℕ) × Leads n A B p
+Told Less n A B = (p : ℕ) × Leads n B A p
+Told Equal n A B = Agree n A B
+Told Greater n A B = (p : ℕ) × Leads n A B p
 
 -- sets that agree at n and below it agree below n + 1
 at_most : (A B : Set) {n : ℕ} (q : ℕ) → A n ≡ B n → (q < n → A q ≡ B q) → q < suc n → A q ≡ B q
@@ -40,30 +42,30 @@ leads_more {A = A} {B = B} e L =
     record { small = omega (arith, L.small); has = L.has; lacks = L.lacks; above = λ q l h. at_most A B q e (L.above q l) h }
 
 told_more : (n : ℕ) (A B : Set) → A n ≡ B n → (o : Ordering) → Told o n A B → Told o (suc n) A B
-told_more n A B e less t = (t.0, leads_more (sym e) t.1)
-told_more n A B e equal t = λ p h. at_most A B p e (t p) h
-told_more n A B e greater t = (t.0, leads_more e t.1)
+told_more n A B e Less t = (t.0, leads_more (sym e) t.1)
+told_more n A B e Equal t = λ p h. at_most A B p e (t p) h
+told_more n A B e Greater t = (t.0, leads_more e t.1)
 
 -- of any two sets one of the three is told
 compared : (n : ℕ) (A B : Set) → (o : Ordering) × Told o n A B
-compared zero A B = (equal, λ p h. absurd (omega arith))
+compared zero A B = (Equal, λ p h. absurd (omega arith))
 compared (suc n) A B = go (A n) (B n) refl refl (compared n A B)
   where
     go : (a b : Bool) → A n ≡ a → B n ≡ b → (o : Ordering) × Told o n A B → (o : Ordering) × Told o (suc n) A B
     go true true x y c = (c.0, told_more n A B (x ∙ sym y) c.0 c.1)
-    go true false x y c = (greater, (n, leads_last x y))
-    go false true x y c = (less, (n, leads_last y x))
+    go true false x y c = (Greater, (n, leads_last x y))
+    go false true x y c = (Less, (n, leads_last y x))
     go false false x y c = (c.0, told_more n A B (x ∙ sym y) c.0 c.1)
 
 abbrev pub opposite : Ordering → Ordering
-opposite less = greater
-opposite equal = equal
-opposite greater = less
+opposite Less = Greater
+opposite Equal = Equal
+opposite Greater = Less
 
 told_swap : (n : ℕ) (A B : Set) (o : Ordering) → Told o n A B → Told (opposite o) n B A
-told_swap n A B less t = t
-told_swap n A B equal t = λ p h. sym (t p h)
-told_swap n A B greater t = t
+told_swap n A B Less t = t
+told_swap n A B Equal t = λ p h. sym (t p h)
+told_swap n A B Greater t = t
 
 leads_same : {n : ℕ} (A B C D : Set) {p : ℕ} → Agree n A C → Agree n B D → Leads n A B p → Leads n C D p
 leads_same A B C D {p} f g L =
@@ -75,9 +77,9 @@ leads_same A B C D {p} f g L =
     }
 
 told_same : (n : ℕ) (A B C D : Set) → Agree n A C → Agree n B D → (o : Ordering) → Told o n A B → Told o n C D
-told_same n A B C D f g less t = (t.0, leads_same B A D C g f t.1)
-told_same n A B C D f g equal t = λ p h. sym (f p h) ∙ t p h ∙ g p h
-told_same n A B C D f g greater t = (t.0, leads_same A B C D f g t.1)
+told_same n A B C D f g Less t = (t.0, leads_same B A D C g f t.1)
+told_same n A B C D f g Equal t = λ p h. sym (f p h) ∙ t p h ∙ g p h
+told_same n A B C D f g Greater t = (t.0, leads_same A B C D f g t.1)
 
 -- the larger of two leads is the lead of the first over the last
 leads_trans : {n p q : ℕ} {A B C : Set} → Leads n A B p → Leads n B C q → (r : ℕ) × Leads n A C r
@@ -122,20 +124,20 @@ module _ (n mask size : ℕ) where
 
     -- the bucket that decides
     decided : (p : ℕ) (a b : Bool) → p < n → A p ≡ a → B p ≡ b → differ a b ≡ true → ((q : ℕ) → p < q → q < n → A q ≡ B q)
-        → order_of n mask size S T ≡ cond a greater less
+        → order_of n mask size S T ≡ cond a Greater Less
     unfolding order_of
     decided p a b h x y d g =
         let e : D p ≡ true = kept_apart_at mask size S T p ∙ ap₂ differ x y ∙ d in
         ap (holder S) (members_head D p n h e (λ q l k. shared q (g q l k)))
-        ∙ ap (λ (c : Bool). cond c greater less) (sym (kept_at mask size S p (kept_laid mask size (apart S T) p e)) ∙ x)
+        ∙ ap (λ (c : Bool). cond c Greater Less) (sym (kept_at mask size S p (kept_laid mask size (apart S T) p e)) ∙ x)
 
     -- The answer is o exactly where the kept buckets are as o tells.
     pub told_order : (o : Ordering) → Told o n (kept mask size S) (kept mask size T) → order_of n mask size S T ≡ o
     unfolding order_of
-    told_order less t =
+    told_order Less t =
         let L = t.1 in decided t.0 false true L.small L.lacks L.has refl (λ q l h. sym (L.above q l h))
-    told_order equal t = ap (holder S) (members_none D n (λ p h. shared p (t p h)))
-    told_order greater t =
+    told_order Equal t = ap (holder S) (members_none D n (λ p h. shared p (t p h)))
+    told_order Greater t =
         let L = t.1 in decided t.0 true false L.small L.has L.lacks refl L.above
 
     pub order_told_lem : (o : Ordering) → order_of n mask size S T ≡ o → Told o n (kept mask size S) (kept mask size T)
@@ -148,13 +150,13 @@ module _ (n mask size : ℕ) where
       let o : Ordering = order_of n mask size S T in
       told_order T S (opposite o) (told_swap n (kept mask size S) (kept mask size T) o (order_told_lem S T o refl))
 
-  pub order_self : (S : Set) → order_of n mask size S S ≡ equal
-  order_self S = told_order S S equal (λ p h. refl)
+  pub order_self : (S : Set) → order_of n mask size S S ≡ Equal
+  order_self S = told_order S S Equal (λ p h. refl)
 
-  pub order_trans : (S T R : Set) → order_of n mask size S T ≡ greater → order_of n mask size T R ≡ greater
-      → order_of n mask size S R ≡ greater
+  pub order_trans : (S T R : Set) → order_of n mask size S T ≡ Greater → order_of n mask size T R ≡ Greater
+      → order_of n mask size S R ≡ Greater
   order_trans S T R x y =
-      told_order S R greater (leads_trans (order_told_lem S T greater x).1 (order_told_lem T R greater y).1)
+      told_order S R Greater (leads_trans (order_told_lem S T Greater x).1 (order_told_lem T R Greater y).1)
 
   -- the order depends only on the buckets kept below n
   pub order_kept : (S T Q R : Set) → Agree n (kept mask size S) (kept mask size Q) → Agree n (kept mask size T) (kept mask size R)
@@ -169,8 +171,8 @@ module _ (n mask size : ℕ) where
       order_kept S T Q R (λ p h. kept_same mask size S Q p (f p h)) (λ p h. kept_same mask size T R p (g p h))
 
   -- sets that the order does not tell apart stand alike to any other
-  pub equal_left : (S T R : Set) → order_of n mask size S T ≡ equal → order_of n mask size S R ≡ order_of n mask size T R
-  equal_left S T R e = order_kept S R T R (order_told_lem S T equal e) (λ p h. refl)
+  pub equal_left : (S T R : Set) → order_of n mask size S T ≡ Equal → order_of n mask size S R ≡ order_of n mask size T R
+  equal_left S T R e = order_kept S R T R (order_told_lem S T Equal e) (λ p h. refl)
 
-  pub equal_right : (S T R : Set) → order_of n mask size S T ≡ equal → order_of n mask size R S ≡ order_of n mask size R T
-  equal_right S T R e = order_kept R S R T (λ p h. refl) (order_told_lem S T equal e)
+  pub equal_right : (S T R : Set) → order_of n mask size S T ≡ Equal → order_of n mask size R S ≡ order_of n mask size R T
+  equal_right S T R e = order_kept R S R T (λ p h. refl) (order_told_lem S T Equal e)

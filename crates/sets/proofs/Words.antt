@@ -344,19 +344,22 @@ word_flip_other b S i h =
 
 -- ---- the highest digit, and the number of digits
 
--- the place of the highest set digit is told by the zeros above it
-pub top_digit : (w : ℕ) → 0 < w → w < 2 ^ 64 → TopDigit w (63 - count_leading_zeros 64 w)
+-- the place of the highest set digit
+pub highest_digit : (w j : ℕ) → j < 64 → 2 ^ j ≤ w → w < 2 * 2 ^ j → TopDigit w j
 unfolding digit
+highest_digit w j s a b =
+    record {
+      small = s;
+      is_set = ap (λ (x : ℕ). eqb (x % 2) 1) (div-eq_of_lt-le {k = 1} (2 ^ j) (omega (arith, a)) (omega (arith, b)));
+      above = λ q l. digit_past w q (lt_of_lt_of_le (omega (arith, b, pow-suc 2 j)) (pow_mono l));
+    }
+
+-- it is told by the zeros above it
+pub top_digit : (w : ℕ) → 0 < w → w < 2 ^ 64 → TopDigit w (63 - count_leading_zeros 64 w)
 top_digit w p h =
     let t = leading_top 64 w p h in
     let e : 63 - count_leading_zeros 64 w ≡ t.0 = omega (arith, t.1) in
-    subst (TopDigit w) (sym e) (record {
-      small = omega (arith, t.1);
-      is_set =
-          ap (λ (x : ℕ). eqb (x % 2) 1) (div-eq_of_lt-le {k = 1} (2 ^ t.0) (omega (arith, t.2))
-          (omega (arith, t.3, pow-suc 2 t.0)));
-      above = λ q l. digit_past w q (lt_of_lt_of_le t.3 (pow_mono l));
-    })
+    subst (TopDigit w) (sym e) (highest_digit w t.0 (omega (arith, t.1)) (omega (arith, t.2)) (omega (arith, t.3, pow-suc 2 t.0)))
 
 -- in a block of a set it is the largest member
 pub top_member : (S : Set) (i j : ℕ) → TopDigit (block_at S i) j

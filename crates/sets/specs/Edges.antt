@@ -16,10 +16,12 @@ use Rattle.sets.specs.Configurations.{
   leftover_bits,
 }
 use Rattle.sets.specs.Filter.{boundary, is_builder, exact_count_at, limited_count_at, limited_bound_at}
-use Rattle.sets.specs.Masks.{Ordering, less, equal, greater, kept, order_of, packed, key_of}
+use Rattle.sets.specs.Masks.{kept, order_of, packed, key_of}
 use Rattle.sets.specs.Row.{little, bytes_of, row, shown_row, Fault, nowhere, place, fall_fault, count_fault, spare_fault, high_fault}
 use Rattle.sets.specs.Refusals.{Verdict, taken, refused, verdict, are_buckets, is_mask, is_row_of}
 use Rattle.sets.specs.Text.{text, order_word, overlap, compare_text}
+use Rattle.std.specs.declared.cmp.Ordering.{Ordering}
+use Rattle.std.specs.declared.cmp.Ordering.TheVariants.{Less, Equal, Greater}
 
 -- the set of the buckets toggled, from the empty filter
 abbrev pub flipped : List ℕ → Set
@@ -167,14 +169,14 @@ traps =
     -- a zero slot proves nothing: {5} and {5, 0} share a key, and the order tells them apart
     ∷ key_is (5 ∷ []) 1 1 5629499534213120
     ∷ key_is (5 ∷ 0 ∷ []) 1 1 5629499534213120
-    ∷ order_is (5 ∷ []) (5 ∷ 0 ∷ []) 1 1 less
+    ∷ order_is (5 ∷ []) (5 ∷ 0 ∷ []) 1 1 Less
     -- the other two widths of a slot
     ∷ packs ten (66559 ∷ 5 ∷ 4 ∷ 66559 ∷ []) 9367346492811022399
     ∷ packs thirteen (532479 ∷ 5 ∷ 4 ∷ 532479 ∷ []) 9367469632828473416
     -- only what the mask keeps is ordered, and its difference decides
-    ∷ order_is (3 ∷ []) (2 ∷ []) 1 2 less
-    ∷ order_is (3 ∷ 2 ∷ []) (3 ∷ []) 1 2 greater
-    ∷ order_is (3 ∷ []) [] 1 2 equal
+    ∷ order_is (3 ∷ []) (2 ∷ []) 1 2 Less
+    ∷ order_is (3 ∷ 2 ∷ []) (3 ∷ []) 1 2 Greater
+    ∷ order_is (3 ∷ []) [] 1 2 Equal
     -- lengths: half an entry, a spare byte alone, a block cut, the longest row and a block more
     ∷ refuses_row (replicate 1 0) 4
     ∷ refuses_row (replicate 25 0) 4

@@ -3,6 +3,8 @@ use Rattle.std.specs.Prelude.{Bool, true, false, cond, ◌&&◌, List, [], ◌�
 use Rattle.sets.specs.Sets.{Set, apart, members, all_below}
 use Rattle.sets.specs.Words.{digit}
 use Rattle.sets.specs.Configurations.{Config, W, position_bits, whole_slots, leftover_bits}
+use Rattle.std.specs.declared.cmp.Ordering.{Ordering}
+use Rattle.std.specs.declared.cmp.Ordering.TheVariants.{Less, Equal, Greater}
 
 -- the mask's digits, laid end to end over all buckets
 abbrev pub laid : ℕ → ℕ → Set
@@ -25,13 +27,10 @@ mask_fits mask size = ltb mask (2 ^ size)
 
 -- ---- order
 
-pub data Ordering : Type 0 where
-  less equal greater : Ordering
-
 -- 01: "take the largest kept bucket held by exactly one filter; its holder is greater. With none they are equal."
 abbrev pub holder : Set → List ℕ → Ordering
-holder S [] = equal
-holder S (p ∷ ps) = cond (S p) greater less
+holder S [] = Equal
+holder S (p ∷ ps) = cond (S p) Greater Less
 
 unfoldable pub order_of : ℕ → ℕ → ℕ → Set → Set → Ordering
 order_of n mask size S T = holder S (members (kept mask size (apart S T)) n)
@@ -55,9 +54,9 @@ slots_fit c mask size S = all_below (2 ^ position_bits c) (take (suc (whole_slot
 
 -- 01: "of two lent rows it returns the greater one itself, the first if equal"
 abbrev pub first_wins : Ordering → Bool
-first_wins less = false
-first_wins equal = true
-first_wins greater = true
+first_wins Less = false
+first_wins Equal = true
+first_wins Greater = true
 
 -- 01: "gives the buckets from largest to smallest, each once"; "The place is the number of buckets already given; at or past the
 -- set's size a step tells the end and the place stays."

@@ -7,9 +7,11 @@ use Prim.Native.String.{String}
 use Rattle.sets.specs.Sets.{Set, apart, same}
 use Rattle.sets.specs.Configurations.{Config, W, config_at}
 use Rattle.sets.specs.Filter.{exact_count_at, limited_count_at, limited_bound_at}
-use Rattle.sets.specs.Masks.{Ordering, less, equal, greater, order_of, key_of}
+use Rattle.sets.specs.Masks.{order_of, key_of}
 use Rattle.sets.specs.Row.{shown_row}
 use Rattle.sets.specs.Refusals.{Verdict, taken, refused, verdict, number, configuration, text_form, is_mask, is_row_of}
+use Rattle.std.specs.declared.cmp.Ordering.{Ordering}
+use Rattle.std.specs.declared.cmp.Ordering.TheVariants.{Less, Equal, Greater}
 
 -- the bytes of a text
 abbrev pub text : String → List ℕ
@@ -161,9 +163,9 @@ unfoldable pub overlap : ℕ → ℕ → ℕ → ℕ
 overlap a b d = cond (eqb (a + b) 0) 0 ((a + b - d) * 1000 / (a + b))
 
 abbrev pub order_word : Ordering → List ℕ
-order_word less = text "less"
-order_word equal = text "equal"
-order_word greater = text "greater"
+order_word Less = text "less"
+order_word Equal = text "equal"
+order_word Greater = text "greater"
 
 -- a line: its word, its fields with a space before each, and a newline
 abbrev pub fields : List (List ℕ) → List ℕ

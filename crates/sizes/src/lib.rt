@@ -2,7 +2,7 @@
 #![tactic(auto)]
 
 ghost use Rattle.std.specs.Prelude.{◌≡◌};
-ghost use Rattle.sizes.specs.Sizes.{sizes_of};
+ghost use Rattle.sizes.specs.Sizes.{number_of, sizes_of};
 
 // A line of document 01's table.
 #[derive(Clone, Copy)]
@@ -27,54 +27,37 @@ pub struct Sizes {
     pub longest: usize,
 }
 
-#[derive(Clone, Copy)]
-pub struct Refusal {
-    pub number: u8,
+// Why a call refuses, in the order of document 01's numbers.
+#[derive(Clone, Copy, PartialEq, Eq)]
+pub enum Refusal {
+    Configuration = 1,
+    Range,
+    Room,
+    RowLength,
+    NoSet,
+    MaskSize,
+    MaskBits,
+    Soundness,
+    Likeness,
+    Slot,
+    TextForm,
 }
 
-// What is told of a test that fails, by the names of its reason in the definitions.
-pub const CONFIGURATION: Refusal = Refusal { number: 1 };
-
-pub const RANGE: Refusal = Refusal { number: 2 };
-
-pub const ROOM: Refusal = Refusal { number: 3 };
-
-pub const BUFFER: Refusal = Refusal { number: 3 };
-
-pub const ROW_LENGTH: Refusal = Refusal { number: 4 };
-
-pub const FALL: Refusal = Refusal { number: 5 };
-
-pub const BLOCK_COUNT: Refusal = Refusal { number: 5 };
-
-pub const SPARE: Refusal = Refusal { number: 5 };
-
-pub const HIGH: Refusal = Refusal { number: 5 };
-
-pub const MASK_SIZE: Refusal = Refusal { number: 6 };
-
-pub const MASK_BITS: Refusal = Refusal { number: 7 };
-
-pub const SOUNDNESS: Refusal = Refusal { number: 8 };
-
-pub const LIKENESS: Refusal = Refusal { number: 9 };
-
-pub const SLOT: Refusal = Refusal { number: 10 };
-
-pub const TEXT_FORM: Refusal = Refusal { number: 11 };
-
-#[derive(Clone, Copy)]
-pub enum SizesAnswer {
-    Known(Sizes),
-    Refused(Refusal),
+impl Refusal {
+    // 01's number.
+    pub fn number(self) -> u8
+        ensures { result ≡ number_of self }
+    {
+        self as u8
+    }
 }
 
 // The number is 64 bits wide, so that no caller's number is cut to a known one.
-pub fn sizes_of(config: u64) -> SizesAnswer
+pub fn sizes_of(config: u64) -> Result<Sizes, Refusal>
     ensures { result ≡ sizes_of config }
 {
     match config {
-        7 => SizesAnswer::Known(Sizes {
+        7 => Ok(Sizes {
             level: 7,
             top: 12,
             entry: 2,
@@ -85,7 +68,7 @@ pub fn sizes_of(config: u64) -> SizesAnswer
             window: 11,
             longest: 1065,
         }),
-        10 => SizesAnswer::Known(Sizes {
+        10 => Ok(Sizes {
             level: 10,
             top: 64,
             entry: 4,
@@ -96,7 +79,7 @@ pub fn sizes_of(config: u64) -> SizesAnswer
             window: 80,
             longest: 8569,
         }),
-        13 => SizesAnswer::Known(Sizes {
+        13 => Ok(Sizes {
             level: 13,
             top: 384,
             entry: 4,
@@ -107,6 +90,6 @@ pub fn sizes_of(config: u64) -> SizesAnswer
             window: 700,
             longest: 68049,
         }),
-        _ => SizesAnswer::Refused(CONFIGURATION),
+        _ => Err(Refusal::Configuration),
     }
 }

@@ -2,24 +2,20 @@
 // for each, y or n.
 #![tactic(auto)]
 
-use compare_text::TextAnswer;
 use examples::{end_line, tell};
+use sizes::Refusal;
 use std::io;
 
 fn the_answer_stands_at_the_beginning() -> bool {
     let mut out = [170u8; 322];
-    match compare_text::compare_text(b"config 13\n", &mut out) {
-        TextAnswer::Written(n) => n == 12 && out[0] == b'r' && out[11] == b'\n' && out[12] == 170,
-        TextAnswer::Refused(_) => false,
-    }
+    let answer = compare_text::compare_text(b"config 13\n", &mut out);
+    answer == Ok(12) && out.starts_with(b"refused 1 1\n") && out[12] == 170
 }
 
 fn a_buffer_that_is_too_short_stays() -> bool {
     let mut out = [170u8; 11];
-    match compare_text::compare_text(b"config 13\n", &mut out) {
-        TextAnswer::Written(_) => false,
-        TextAnswer::Refused(r) => r.number == 3 && out[0] == 170 && out[10] == 170,
-    }
+    let answer = compare_text::compare_text(b"config 13\n", &mut out);
+    answer == Err(Refusal::Room) && out == [170; 11]
 }
 
 fn main(rt: HostRuntime) -> io::Result<()> {

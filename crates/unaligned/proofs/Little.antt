@@ -1,50 +1,77 @@
--- A number of w + u bytes is one of w bytes and one of u bytes after it: read, and written. Assumes nothing.
-use mathlib.Core.Path.{◌≡◌, sym, ap, ◌∙◌}
-use mathlib.Core.List.{List, [], ◌∷◌, ◌++◌}
-use Prim.Native.Nat.{ℕ, zero, suc, ◌+◌, ◌*◌, ◌/◌, ◌%◌, ◌^◌, ◌≤◌, ◌<◌}
-use native.Mathlib.Nat.{zero-add, suc-add, mul_assoc, div-one}
+-- A number of at most 8 bytes, read and written by way of all 8. Assumes nothing.
+use mathlib.Core.Path.{◌≡◌, refl, ap, ◌∙◌}
+use mathlib.Core.List.{List, [], ◌∷◌, ◌++◌, append_assoc}
+use Prim.Native.Nat.{ℕ, zero, suc, ◌+◌, ◌-◌, ◌*◌, ◌/◌, ◌%◌, ◌^◌, ◌≤◌}
+use native.Mathlib.Nat.{pow-succ'}
 use native.Mathlib.Omega.{arith}
-use lib.ListN.{length, get_or, take, drop, length-drop}
-use lib.Pow.{pow-add, field, mod-mod-pow, shr-shr}
-use lib.Seq.{sets, take-add, drop-drop, drop-cons, length-take-le}
+use borrow.Rule.Slice.PartMut.{put_mid}
+use lib.ListN.{length, take, drop, length-append, length-drop}
+use lib.Seq.{sets, drop-drop, length-take-le}
+use mir.Syntax.{w64}
+use Rattle.std.specs.Prelude.{slice_index}
+use Rattle.std.specs.Int.{from_le_bytes, to_le_bytes, byte_worth, sum_through}
+use Rattle.std.proofs.lemmas.List.Edits.{sets-eq}
 use Rattle.sets.specs.Row.{bytes, little}
 use Rattle.sets.proofs.Bytes.{length_bytes}
-use Rattle.sets.proofs.Lists.{sets_append}
 
 -- ---- read
 
-little_append : (xs ys : List ℕ) → little (xs ++ ys) ≡ little xs + 2 ^ (8 * length xs) * little ys
-little_append [] ys = omega arith
-little_append (x ∷ xs) ys =
-    let e : 8 * suc (length xs) ≡ 8 + 8 * length xs = omega arith in
-    let p : 2 ^ (8 * suc (length xs)) ≡ 256 * 2 ^ (8 * length xs) = ap (λ (k : ℕ). 2 ^ k) e ∙ pow-add 2 8 (8 * length xs) in
-    omega (arith, little_append xs ys, ap (λ (k : ℕ). k * little ys) p ∙ mul_assoc 256 (2 ^ (8 * length xs)) (little ys))
+worth : List ℕ → ℕ → ℕ
+worth bs k = sum_through (λ i. byte_worth i (slice_index bs i)) k
 
-pub little_one : (l : List ℕ) (at : ℕ) → at < length l → little (take 1 (drop at l)) ≡ get_or l at 0
-little_one l at h = rw (drop-cons l at 0) (omega arith)
+worth_none : (k : ℕ) → worth [] k ≡ 0
+unfolding worth
+worth_none zero = refl
+worth_none (suc k) = omega (arith, worth_none k)
 
-pub little_split : (w u at : ℕ) (l : List ℕ) → at + (w + u) ≤ length l
-    → little (take (w + u) (drop at l)) ≡ little (take w (drop at l)) + 2 ^ (8 * w) * little (take u (drop (at + w) l))
-little_split w u at l h =
-    let n : length (take w (drop at l)) ≡ w = length-take-le w (drop at l) (omega (arith, length-drop at l)) in
-    rw (take-add w u (drop at l), drop-drop w at l)
-    (little_append (take w (drop at l)) (take u (drop (at + w) l))
-    ∙ ap (λ (k : ℕ). little (take w (drop at l)) + 2 ^ (8 * k) * little (take u (drop (at + w) l))) n)
+worth_more : (b : ℕ) (bs : List ℕ) (k : ℕ) → worth (b ∷ bs) (suc k) ≡ b + 256 * worth bs k
+unfolding worth
+worth_more b bs zero = omega arith
+worth_more b bs (suc k) =
+    let x : ℕ = slice_index bs (suc k) in
+    let e : x * 256 ^ suc (suc k) ≡ 256 * (x * 256 ^ suc k) = omega (arith, ap (◌*◌ x) (pow-succ' 256 (suc k))) in
+    omega (arith, worth_more b bs k)
+
+little_all : (bs : List ℕ) (k : ℕ) → length bs ≤ suc k → worth bs k ≡ little bs
+unfolding worth
+little_all [] k h = worth_none k
+little_all (b ∷ []) zero h = omega arith
+little_all (b ∷ c ∷ bs) zero h = absurd (omega arith)
+little_all (b ∷ bs) (suc k) h = omega (arith, worth_more b bs k, little_all bs k (omega arith))
+
+little_none : (n : ℕ) (ys : List ℕ) → little ys ≡ 0 → little (drop n ys) ≡ 0
+little_none zero ys h = h
+little_none (suc n) [] h = h
+little_none (suc n) (y ∷ ys) h = little_none n ys (omega arith)
+
+little_more : (xs ys : List ℕ) → little ys ≡ 0 → little (xs ++ ys) ≡ little xs
+little_more [] ys h = h
+little_more (x ∷ xs) ys h = omega (arith, little_more xs ys h)
+
+pub read_as : (n at : ℕ) (from : List ℕ) {word : List ℕ} (rest : List ℕ) {v : ℕ} → n ≤ 8 → at + n ≤ length from
+    → word ≡ take (at + n - at) (drop at from) → length rest ≡ 8 → little rest ≡ 0 → v ≡ from_le_bytes w64 (word ++ drop n rest)
+    → v ≡ little (take n (drop at from))
+unfolding worth
+read_as n at from {word} rest h l e m z f =
+    let k : at + n - at ≡ n = omega arith in
+    let g : word ≡ take n (drop at from) = e ∙ ap (λ (x : ℕ). take x (drop at from)) k in
+    let w : length word ≡ n = ap length g ∙ length-take-le n (drop at from) (omega (arith, length-drop at from)) in
+    f ∙ little_all (word ++ drop n rest) 7 (omega (arith, length-append word (drop n rest), length-drop n rest))
+    ∙ little_more word (drop n rest) (little_none n rest z) ∙ ap little g
 
 -- ---- written
 
-bytes_split : (w u v : ℕ) → bytes (w + u) v ≡ bytes w (v % 2 ^ (8 * w)) ++ bytes u (v / 2 ^ (8 * w))
-bytes_split zero u v = rw (zero-add, div-one)
-bytes_split (suc w) u v =
-    let e : 8 * suc w ≡ 8 * w + 8 = omega arith in
-    let f : 8 * suc w ≡ 8 + 8 * w = omega arith in
-    rw (suc-add w u, e, mod-mod-pow v (8 * w) 8, field v (8 * w) 8, ← e, f, ← shr-shr v 8 (8 * w))
-    (ap (◌∷◌ (v % 256)) (bytes_split w u (v / 256)))
+bytes_eight : (v : ℕ) → to_le_bytes w64 v ≡ bytes 8 v
+bytes_eight v = grind arith
 
-pub sets_split : (w u v at : ℕ) (l : List ℕ)
-    → sets (sets l at (bytes w (v % 2 ^ (8 * w)))) (at + w) (bytes u (v / 2 ^ (8 * w))) ≡ sets l at (bytes (w + u) v)
-sets_split w u v at l =
-    let low : List ℕ = bytes w (v % 2 ^ (8 * w)) in
-    let high : List ℕ = bytes u (v / 2 ^ (8 * w)) in
-    sym (ap (sets l at) (bytes_split w u v) ∙ sets_append l at low high
-    ∙ ap (λ (k : ℕ). sets (sets l at low) (at + k) high) (length_bytes w (v % 2 ^ (8 * w))))
+take_bytes : (n k v : ℕ) → n ≤ k → take n (bytes k v) ≡ bytes n v
+take_bytes zero k v h = refl
+take_bytes (suc n) zero v h = absurd (omega arith)
+take_bytes (suc n) (suc k) v h = ap (◌∷◌ (v % 256)) (take_bytes n k (v / 256) (omega arith))
+
+pub written_as : (n at : ℕ) (to : List ℕ) {word low : List ℕ} (v : ℕ) → n ≤ 8 → at + n ≤ length to → word ≡ to_le_bytes w64 v
+    → low ≡ take n word → put_mid at (at + n - at) to low ≡ sets to at (bytes n v)
+written_as n at to v h l e f =
+    let k : at + n - at ≡ n = omega arith in
+    let g : _ ≡ bytes n v = f ∙ ap (take n) (e ∙ bytes_eight v) ∙ take_bytes n 8 v h in
+    rw (g, k, sets-eq (bytes n v) to at (omega (arith, length_bytes n v)), length_bytes n v, drop-drop n at to, append_assoc)

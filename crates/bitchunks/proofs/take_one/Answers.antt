@@ -10,7 +10,7 @@ use Rattle.bitchunks.proofs.take_one.Goals as goal
 pub returns : goal.returns
 returns c S tops a = (
   rest_one S _ _ _ c.from_block_msb-bit.ensures
-      ∙ ap₂ (λ (p x : ℕ). p ∷ rest S c.args.end (bit_xor c.args.block x))
+      ∙ ap₂ (λ (p x : ℕ). p ∷ rest S c.args.cursor.end (bit_xor c.args.block x))
       (sym c.into_bucket.ensures) (sym c.into_block.ensures),
   a,
 )

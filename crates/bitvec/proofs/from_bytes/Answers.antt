@@ -11,10 +11,10 @@ loop-i-init c = fill_start _ _ _ 0 (omega arith) refl refl
 
 pub loop-i-preserved : goal.loop-i-preserved
 loop-i-preserved c =
-    fill_turn c.read_u64.result c.requires.0 c.loop-i-test.true
+    fill_turn c.read.result c.requires.0 (omega arith)
     (numbers_next 8 c.loop-i.i c.args.at c.args.from.now (c.args.at + 8 * c.loop-i.i)
-    c.read_u64.result (omega arith) c.read_u64.ensures)
+    c.read.result (omega arith) c.read.ensures)
     c.loop-i.invariant
 
 pub returns : goal.returns
-returns c = fill_end c.loop-i-test.false c.loop-i.invariant
+returns c = fill_end (omega arith) c.loop-i.invariant

@@ -14,14 +14,11 @@ loop-count-init c = start _ _ _ _
 
 pub returns-then-i-eq0 : goal.returns-then-i-eq0
 returns-then-i-eq0 c =
-    let o = c.occupied-i.ensures in
-    emptied c.requires c.loop-count.invariant c.if-block-eq0.true _ o.0 o.1 (omega arith)
-    (omega arith)
+    emptied c.requires c.loop-count.invariant c.if-block-eq0.true _ c.occupied-i.ensures (omega arith) (omega arith)
 
 pub loop-count-preserved-then-block-eq0 : goal.loop-count-preserved-then-block-eq0
 loop-count-preserved-then-block-eq0 c =
-    let o = c.occupied-i.ensures in
-    down c.requires c.loop-count.invariant c.if-block-eq0.true _ o.0 o.1 (omega arith)
+    down c.requires c.loop-count.invariant c.if-block-eq0.true _ c.occupied-i.ensures (omega arith)
 
 pub into_block-block-requires : goal.into_block-block-requires
 into_block-block-requires c = c.from_block_msb-bit.ensures.small

@@ -1,5 +1,6 @@
 -- `bitvec::resize` meets its contract: the blocks below the boundary are cut, and zeros follow.
 use native.Mathlib.Omega.{arith}
+use Rattle.bitvec.proofs.Filling.{zeroed_fill}
 use Rattle.bitvec.proofs.Resizing.{Trimming, cut_none, cut_one, resized}
 use Rattle.bitvec.proofs.resize.Goals as goal
 use Rattle.bitvec.proofs.resize.Goals.{Joined-bit-gt0, else-bit-gt0, then-bit-gt0}
@@ -18,8 +19,8 @@ is_cut c =
           c.into_bit-bit.ensures _ _ w.if-bit-gt0.false w.blocks-is w.whole-is
     ]
 
-pub zero_blocks-requires : goal.zero_blocks-requires
-zero_blocks-requires c = omega (arith, (is_cut (goal.at.zero_blocks-requires c).Joined-bit-gt0).whole_is, (is_cut (goal.at.zero_blocks-requires c).Joined-bit-gt0).length_is)
-
 pub returns : goal.returns
-returns c = resized _ c.requires.0 c.requires.1 (is_cut (goal.at.returns c).Joined-bit-gt0) c.zero_blocks.ensures
+returns c =
+    let t = is_cut (goal.at.returns c).Joined-bit-gt0 in
+    resized _ c.requires.0 c.requires.1 t
+    (zeroed_fill _ _ _ (omega (arith, t.whole_is)) (omega (arith, t.length_is)) c.fill.ensures.after)

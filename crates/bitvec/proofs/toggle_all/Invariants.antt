@@ -1,10 +1,8 @@
--- `bitvec::toggle_all` meets its contract: the first i buckets listed are flipped.
-use Prim.Native.Nat.{◌-◌}
-use Rattle.bitvec.proofs.Flipping.{Flipping}
+-- `bitvec::toggle_all` meets its contract: the buckets before the one in hand are flipped.
+use mathlib.Core.Path.{◌≡◌}
+use lib.ListN.{take}
+use Rattle.sets.specs.Words.{flip_bits}
 use Rattle.bitvec.proofs.toggle_all.Given as goal
 
-abbrev pub invariant-loop-i : goal.invariant-loop-i
-invariant-loop-i l = Flipping l.n l.list l.initial.blocks l.blocks l.i
-
-abbrev pub decreases-loop-i : goal.decreases-loop-i
-decreases-loop-i l = l.n - l.i
+abbrev pub invariant-loop-bucket : goal.invariant-loop-bucket
+invariant-loop-bucket l = l.blocks ≡ flip_bits l.initial.blocks (take l.bucket-index l.list)

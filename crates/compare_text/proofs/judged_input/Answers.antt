@@ -1,46 +1,44 @@
--- `compare_text::judged_input` meets its contract: each return by what the line and the configuration tell.
+-- `compare_text::judged_input` meets its contract: each return by what the line tells.
 use mathlib.Core.Path.{sym, ap, ◌∙◌}
+use mathlib.Core.List.{List}
+use Prim.Native.Nat.{ℕ}
 use native.Mathlib.Omega.{arith}
-use lib.ListN.{take}
+use Rattle.sets.specs.Configurations.{config_at}
+use Rattle.sets.specs.Text.{Judged, config_line, judged_input, judged_masked}
 use Rattle.lines.specs.Lines.{config_told}
 use Rattle.lines.proofs.Judged.{config_areas}
-use Rattle.compare_text.proofs.Judging.{Line, input_judged, input_long, input_missing, input_refused, line_ends, line_length}
-use Rattle.compare_text.proofs.Judging.{no_line, rest_fits}
+use Rattle.compare_text.proofs.Judging.{goes_on, line_taken, long_input, missing, short_input, stopped}
 use Rattle.compare_text.proofs.judged_input.Goals as goal
-use Rattle.compare_text.proofs.judged_input.Goals.{In-At}
 
--- the line has its end
-ended : (k : In-At) → Line k.args.input.now k.in-At.end
-ended k = line_ends k.args.input.now _ k.find.ensures k.in-At.end k.in-At.is
+abbrev next : ℕ → List ℕ → Judged (List ℕ)
+next n rest = judged_masked (config_at n) rest
 
 pub returns-then-input-gt-LARGEST_INPUT : goal.returns-then-input-gt-LARGEST_INPUT
-returns-then-input-gt-LARGEST_INPUT c = input_long _ c.if-input-gt-LARGEST_INPUT.true
+returns-then-input-gt-LARGEST_INPUT c = long_input c.args.input.now c.if-input-gt-LARGEST_INPUT.true
 
-pub returns-in_default : goal.returns-in_default
-returns-in_default c =
-    let s = c.args.input.now in
-    let f = c.find in
-    input_missing s c.if-input-gt-LARGEST_INPUT.false (no_line s _ f.ensures c.in_default.is)
+pub returns-in_err-line : goal.returns-in_err-line
+unfolding judged_input
+returns-in_err-line c =
+    missing 1 c.args.input.now config_line next c.from_residual.result c.from_residual.ensures.1 c.in_err-line.ensures.cases
+    ∙ short_input c.args.input.now c.if-input-gt-LARGEST_INPUT.false
 
-pub overflow_add-next : goal.overflow_add-next
-overflow_add-next c = omega (arith, (ended c).inside, c.if-input-gt-LARGEST_INPUT.false)
-
-pub slice_bounds-config_line-end : goal.slice_bounds-config_line-end
-slice_bounds-config_line-end c = sym (line_length _ _ (ended (goal.at.slice_bounds-config_line-end c).In-At))
-
-pub slice_bounds-masked_rows-count : goal.slice_bounds-masked_rows-count
-slice_bounds-masked_rows-count c = omega (arith, (ended (goal.at.slice_bounds-masked_rows-count c).In-At).inside)
-
-pub slice_bounds-masked_rows-start : goal.slice_bounds-masked_rows-start
-slice_bounds-masked_rows-start c = omega (arith, (ended (goal.at.slice_bounds-masked_rows-start c).In-At).inside)
+pub returns-in_err-config : goal.returns-in_err-config
+unfolding judged_input
+returns-in_err-config c =
+    stopped 1 c.args.input.now config_line next c.from_residual-in_err-config.result c.in_ok-line.ensures.cases
+    c.config_line.result c.in_err-config.ensures c.from_residual-in_err-config.ensures.1 (λ y e. sym c.config_line.ensures ∙ ap config_told e)
+    ∙ short_input c.args.input.now c.if-input-gt-LARGEST_INPUT.false
 
 pub masked_rows-requires : goal.masked_rows-requires
-masked_rows-requires c = (rest_fits c.args.input.now c.in-At.end (ended (goal.at.masked_rows-requires c).In-At) c.if-input-gt-LARGEST_INPUT.false, config_areas (take c.in-At.end c.args.input.now) c.in-Is.config (sym c.config_line.ensures ∙ ap config_told c.in-Is.is))
+masked_rows-requires c = (
+  omega (arith, c.in_ok-line.ensures.lengths, c.if-input-gt-LARGEST_INPUT.false),
+  config_areas c.in_ok-line.line.now c.in_ok-config.config
+      (sym c.config_line.ensures ∙ ap config_told (line_taken 1 c.config_line.result c.in_ok-config.ensures)),
+)
 
-pub returns-in-Is : goal.returns-in-Is
-returns-in-Is c = input_judged c.args.input.now c.if-input-gt-LARGEST_INPUT.false c.in-At.end (ended (goal.at.returns-in-Is c).In-At) c.in-Is.config _ (sym c.config_line.ensures ∙ ap config_told c.in-Is.is) c.masked_rows.ensures
-
-pub returns-in-Refused : goal.returns-in-Refused
-returns-in-Refused c =
-    input_refused c.args.input.now c.if-input-gt-LARGEST_INPUT.false c.in-At.end (ended (goal.at.returns-in-Refused c).In-At) c.in-Refused.r.number
-    (sym c.config_line.ensures ∙ ap config_told c.in-Refused.is)
+pub returns : goal.returns
+unfolding judged_input
+returns c =
+    goes_on 1 c.args.input.now config_line next c.masked_rows.result c.in_ok-line.ensures.cases
+    (sym c.config_line.ensures ∙ ap config_told (line_taken 1 c.config_line.result c.in_ok-config.ensures)) c.masked_rows.ensures
+    ∙ short_input c.args.input.now c.if-input-gt-LARGEST_INPUT.false

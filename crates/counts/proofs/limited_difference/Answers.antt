@@ -1,35 +1,40 @@
 -- `counts::limited_difference` meets its contract: the walk goes over the sets that the two filters show.
 use native.Mathlib.Omega.{arith}
 use Rattle.counts.specs.Counting.{limited_difference_of}
-use Rattle.counts.specs.declared.LimitedAnswer.TheVariants as limits
+use mathlib.Core.Path.{◌∙◌}
+use Rattle.sizes.proofs.Laws.{handed_on}
 use Rattle.judge.proofs.Verdicts.{refuses}
-use Rattle.diff_count.proofs.Told.{Two, fits_walk, two, two_not}
+use Rattle.diff_count.proofs.Told.{Two, fits_parts, fits_walk, two, two_not}
 use Rattle.counts.proofs.Counted.{two_limited}
 use Rattle.counts.proofs.limited_difference.Goals as goal
-use Rattle.counts.proofs.limited_difference.Goals.{In-Known}
+use Rattle.counts.proofs.limited_difference.Goals.{In_ok-s}
+use Rattle.std.specs.Prelude.{Err}
 
 -- what the judge told
-told : (c : In-Known) →
+told : (c : In_ok-s) →
     let a = c.args in
-    Two a.a a.top.now a.blocks.now a.b a.top2.now a.blocks2.now c.in-Known.s
-told c = two _ _ _ _ _ _ _ c.filters_lent.ensures c.in-Known.is
+    Two a.a a.top.now a.blocks.now a.b a.top2.now a.blocks2.now c.in_ok-s.s
+told c = two _ _ _ _ _ _ _ c.filters_lent.ensures c.in_ok-s.was
 
-pub num_blocks-n-requires : goal.num_blocks-n-requires
-num_blocks-n-requires c = omega (arith, (told c).fits)
+pub new-first-requires : goal.new-first-requires
+new-first-requires c = fits_parts (told (goal.at.new-first-requires c).In_ok-s).fits
 
-pub num_blocks-n2-requires : goal.num_blocks-n2-requires
-num_blocks-n2-requires c = omega (arith, (told (goal.at.num_blocks-n2-requires c).In-Known).fits2)
+pub new-second-requires : goal.new-second-requires
+new-second-requires c = fits_parts (told (goal.at.new-second-requires c).In_ok-s).fits2
 
 pub count_ones_from_bitchunks-requires : goal.count_ones_from_bitchunks-requires
-count_ones_from_bitchunks-requires c = let T = told (goal.at.count_ones_from_bitchunks-requires c).In-Known in record { walks = (fits_walk _ c.num_blocks-n.ensures T.fits).0; walks_2 = (fits_walk _ c.num_blocks-n2.ensures T.fits2).0; le_m = (omega (arith, T.sizes), omega (arith, T.sizes)) }
+count_ones_from_bitchunks-requires c =
+    let T = told (goal.at.count_ones_from_bitchunks-requires c).In_ok-s in
+    record { walks = (tt, (fits_walk c.new-first.ensures T.fits).0); walks_2 = (tt, (fits_walk c.new-second.ensures T.fits2).0); le_m = (omega (arith, T.sizes), omega (arith, T.sizes)) }
 
-pub returns-in-Known : goal.returns-in-Known
-returns-in-Known c =
-    two_limited _ _ _ _ _ _ _ (told (goal.at.returns-in-Known c).In-Known) _ _ c.num_blocks-n.ensures c.num_blocks-n2.ensures _
+pub returns : goal.returns
+returns c =
+    two_limited _ _ _ _ _ _ _ (told (goal.at.returns c).In_ok-s) c.new-first.ensures c.new-second.ensures _
     c.count_ones_from_bitchunks.ensures
 
-pub returns-in-Refused : goal.returns-in-Refused
+pub returns-in_err-s : goal.returns-in_err-s
 unfolding limited_difference_of
-returns-in-Refused c =
-    refuses (λ x. limits.Refused x) _
-    (two_not _ _ _ _ _ _ _ c.filters_lent.ensures c.in-Refused.is)
+returns-in_err-s c =
+    handed_on _ c.from_residual.ensures.1
+    ∙ refuses (λ x. Err x) _
+    (two_not _ _ _ _ _ _ _ c.filters_lent.ensures c.in_err-s.was)

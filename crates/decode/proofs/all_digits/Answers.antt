@@ -1,16 +1,14 @@
--- `decode::all_digits` meets its contract: the bytes from i on decide.
-use mathlib.Core.Path.{refl, sym}
-use Rattle.decode.proofs.Decimals.{digital_end, digital_not, digital_turn}
+-- `decode::all_digits` meets its contract: every byte is tried.
+use mathlib.Core.Path.{◌∙◌}
+use borrow.Author.Tests.{tests}
+use Rattle.std.proofs.Common.{rules}
+use Rattle.std.proofs.lemmas.Iterator.{YieldsList-from_slice}
+use Rattle.std.proofs.lemmas.Iterator.Search.{all_from_yields_List}
+use Rattle.sets.specs.Text.{is_digit}
+use Rattle.decode.proofs.Decimals.{all_listed}
 use Rattle.decode.proofs.all_digits.Goals as goal
 
-pub loop-i-init : goal.loop-i-init
-loop-i-init c = refl
-
-pub returns-then-value-gt9 : goal.returns-then-value-gt9
-returns-then-value-gt9 c = sym (digital_not _ _ c.loop-i.invariant c.loop-i-test.true _ c.value.ensures c.if-value-gt9.true)
-
-pub loop-i-preserved : goal.loop-i-preserved
-loop-i-preserved c = digital_turn _ _ c.loop-i.invariant c.loop-i-test.true _ c.value.ensures c.if-value-gt9.false
-
 pub returns : goal.returns
-returns c = sym (digital_end _ _ c.loop-i.invariant c.loop-i-test.false)
+returns c =
+    all_from_yields_List is_digit _ _ c.all.result c.all.ensures.ran (YieldsList-from_slice c.args.s.now cc) (λ x b q k. search (rules, tests))
+    ∙ all_listed c.args.s.now

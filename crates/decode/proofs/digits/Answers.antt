@@ -1,18 +1,15 @@
--- `decode::digits` meets its contract: the number so far, and the bytes from i on.
-use Rattle.decode.proofs.Decimals.{spelling_end, spelling_not, spelling_past, spelling_start, spelling_turn}
+-- `decode::digits` meets its contract: the number so far, and the bytes from there on.
+use mathlib.Core.Path.{sym}
+use Rattle.std.proofs.Common.{arith}
+use Rattle.decode.proofs.Decimals.{spelling_past}
 use Rattle.decode.proofs.digits.Goals as goal
 
-pub loop-i-init : goal.loop-i-init
-loop-i-init c = spelling_start _
+pub returns-in_err-checked_mul : goal.returns-in_err-checked_mul
+returns-in_err-checked_mul c =
+    rw c.from_residual.ensures
+    (spelling_past c.loop-b.invariant c.loop-b-test.true (sym c.if-not-is_ascii_digit.ensures.value) (omega arith))
 
-pub returns-then-digit-gt9 : goal.returns-then-digit-gt9
-returns-then-digit-gt9 c = spelling_not c.loop-i.invariant c.loop-i-test.true _ c.value-digit.ensures c.if-digit-gt9.true
-
-pub returns-then-digit-number : goal.returns-then-digit-number
-returns-then-digit-number c = spelling_past c.loop-i.invariant c.loop-i-test.true _ c.value-digit.ensures c.if-digit-gt9.false c.if-digit-number.true
-
-pub loop-i-preserved : goal.loop-i-preserved
-loop-i-preserved c = spelling_turn c.loop-i.invariant c.loop-i-test.true _ c.value-digit.ensures c.if-digit-gt9.false c.if-digit-number.false
-
-pub returns : goal.returns
-returns c = spelling_end c.loop-i.invariant c.loop-i-test.false
+pub returns-in_err-number : goal.returns-in_err-number
+returns-in_err-number c =
+    rw c.from_residual-in_err-number.ensures
+    (spelling_past c.loop-b.invariant c.loop-b-test.true (sym c.if-not-is_ascii_digit.ensures.value) (omega arith))

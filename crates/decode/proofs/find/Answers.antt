@@ -1,16 +1,17 @@
--- `decode::find` meets its contract: no mark among the first i bytes.
-use borrow.Author.Count.{below_none, below_more}
-use Rattle.decode.proofs.Words.{cut_found, cut_none}
+-- `decode::find` meets its contract: the first place of the mark.
+use mathlib.Core.Path.{◌≡◌}
+use borrow.Author.Tests.{tests}
+use lib.Dec.{eqb}
+use Rattle.std.proofs.Common.{rules}
+use Rattle.std.proofs.lemmas.Iterator.{YieldsList-from_slice}
+use Rattle.std.proofs.lemmas.Iterator.Search.{position_from_yields_List}
+use Rattle.std.specs.Prelude.{position}
+use Rattle.decode.proofs.Words.{finds_first}
 use Rattle.decode.proofs.find.Goals as goal
 
-pub loop-i-init : goal.loop-i-init
-loop-i-init c = below_none _
-
-pub returns-then-s-i : goal.returns-then-s-i
-returns-then-s-i c = (c.loop-i-test.true, cut_found _ _ _ c.loop-i-test.true c.loop-i.invariant c.if-s-i.true)
-
-pub loop-i-preserved : goal.loop-i-preserved
-loop-i-preserved c = below_more _ _ c.loop-i.invariant c.if-s-i.false
-
 pub returns : goal.returns
-returns c = cut_none _ c.args.s.now _ c.loop-i-test.false c.loop-i.invariant
+returns c =
+    let first : c.position.result ≡ position (λ x. eqb x c.args.mark) c.args.s.now =
+    position_from_yields_List (λ x. eqb x c.args.mark) _ _ c.position.result c.position.ensures.ran
+    (YieldsList-from_slice c.args.s.now cc) (λ x b q k. search (rules, tests)) in
+    rw first (finds_first c.args.mark c.args.s.now)

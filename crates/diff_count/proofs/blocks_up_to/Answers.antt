@@ -3,16 +3,14 @@ use Prim.Native.Nat.{◌+◌}
 use native.Mathlib.Omega.{arith}
 use Rattle.diff_count.proofs.Reaching.{reach_start, reach_turn, reach_end}
 use Rattle.diff_count.proofs.blocks_up_to.Goals as goal
-use Rattle.diff_count.proofs.blocks_up_to.Goals.{else-most-up_to, then-most-up_to}
 
-pub loop-i-init : goal.loop-i-init
-loop-i-init c = reach_start _ _ _
+pub loop-bucket-init : goal.loop-bucket-init
+loop-bucket-init c = reach_start _ _
 
-pub loop-i-preserved : goal.loop-i-preserved
-loop-i-preserved c =
-    reach_turn c.loop-i.invariant (c.into_index-up_to.result + 1) c.if-most-up_to.most
-    (omega arith) (omega (arith, c.into_index-up_to.ensures, c.into_usize.ensures))
-    (elim c.if-most-up_to.branch [ then-most-up_to w ↦ omega arith | else-most-up_to w ↦ omega arith ])
+pub loop-bucket-preserved : goal.loop-bucket-preserved
+loop-bucket-preserved c =
+    reach_turn c.loop-bucket.invariant (c.into_index.result + 1) _
+    (omega arith) (omega (arith, c.into_index.ensures, c.into_usize.ensures)) c.max-most.ensures
 
 pub returns : goal.returns
-returns c = reach_end c.loop-i.invariant c.requires c.loop-i-test.false
+returns c = reach_end c.loop-bucket.invariant (omega arith)

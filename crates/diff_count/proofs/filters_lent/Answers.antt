@@ -3,4 +3,4 @@ use Rattle.diff_count.proofs.Told.{two_lent}
 use Rattle.diff_count.proofs.filters_lent.Goals as goal
 
 pub returns : goal.returns
-returns c = two_lent _ _ _ _ _ _ c.two_filters.ensures
+returns c = two_lent _ _ _ _ _ _ (rw (c.from.ensures, c.from-2.ensures) at c.two_filters.ensures)

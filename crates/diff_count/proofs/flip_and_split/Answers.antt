@@ -1,11 +1,20 @@
 -- `diff_count::flip_and_split` meets its contract: the blocks come to hold the filter's set, then the flipped one.
+use mathlib.Core.Path.{sym}
+use lib.Seq.{length-take-le}
 use Rattle.sets.proofs.Shown.{filter_holds}
 use Rattle.diff_count.proofs.Flips.{tops_led, fold_fits, list_fits, flip_ends, flip_becomes}
 use borrow.Author.Rules.{rules}
 use Rattle.diff_count.proofs.flip_and_split.Goals as goal
 
 pub blocks_up_to_first-requires : goal.blocks_up_to_first-requires
-blocks_up_to_first-requires c = tops_led (filter_holds _ _ _ _ _ _ c.requires.boundary_value) c.requires.room.some
+blocks_up_to_first-requires c = (tops_led (filter_holds _ _ _ _ _ _ c.requires.boundary_value) c.requires.room.some).1
+
+pub slice_bounds-blocks_up_to_first-end : goal.slice_bounds-blocks_up_to_first-end
+slice_bounds-blocks_up_to_first-end c = (tops_led (filter_holds _ _ _ _ _ _ c.requires.boundary_value) c.requires.room.some).0
+
+pub slice_bounds-blocks_up_to_first-end-2 : goal.slice_bounds-blocks_up_to_first-end-2
+slice_bounds-blocks_up_to_first-end-2 c =
+    sym (length-take-le _ _ (tops_led (filter_holds _ _ _ _ _ _ c.requires.boundary_value) c.requires.room.some).0)
 
 pub fold-requires : goal.fold-requires
 fold-requires c =

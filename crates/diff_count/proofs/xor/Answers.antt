@@ -1,5 +1,7 @@
 -- `diff_count::xor` meets its contract: bits against bits, then each filter's top entries flipped in.
+use mathlib.Core.Path.{sym}
 use native.Mathlib.Omega.{arith}
+use lib.Seq.{length-take-le}
 use Rattle.sets.proofs.Shown.{filter_holds}
 use Rattle.diff_count.proofs.Flips.{tops_fit, tops_led}
 use Rattle.diff_count.proofs.Crossing.{xor_fits, cross_ends, cross_becomes}
@@ -7,10 +9,18 @@ use borrow.Author.Rules.{rules}
 use Rattle.diff_count.proofs.xor.Goals as goal
 
 pub blocks_up_to_first-requires : goal.blocks_up_to_first-requires
-blocks_up_to_first-requires c = tops_led (filter_holds _ _ _ _ _ _ c.requires.boundary_value) c.requires.room.some
+blocks_up_to_first-requires c = (tops_led (filter_holds _ _ _ _ _ _ c.requires.boundary_value) c.requires.room.some).1
 
 pub blocks_up_to_first-n-requires : goal.blocks_up_to_first-n-requires
-blocks_up_to_first-n-requires c = tops_led (filter_holds _ _ _ _ _ _ c.requires.boundary_value_2) c.requires.room.some
+blocks_up_to_first-n-requires c = (tops_led (filter_holds _ _ _ _ _ _ c.requires.boundary_value_2) c.requires.room.some).1
+
+pub slice_bounds-blocks_up_to_first-end : goal.slice_bounds-blocks_up_to_first-end
+slice_bounds-blocks_up_to_first-end c =
+    sym (length-take-le _ _ (tops_led (filter_holds _ _ _ _ _ _ c.requires.boundary_value_2) c.requires.room.some).0)
+
+pub slice_bounds-blocks_up_to_first-end-2 : goal.slice_bounds-blocks_up_to_first-end-2
+slice_bounds-blocks_up_to_first-end-2 c =
+    sym (length-take-le _ _ (tops_led (filter_holds _ _ _ _ _ _ c.requires.boundary_value) c.requires.room.some).0)
 
 pub xor_bits-requires : goal.xor_bits-requires
 xor_bits-requires c =
@@ -18,10 +28,18 @@ xor_bits-requires c =
     let G = filter_holds _ _ _ _ _ _ c.requires.boundary_value_2 in
     let asked = xor_fits c.requires.room H G in record { k_in_bounds = asked.0; bits_below = asked.1.0; bits_below_2 = asked.1.1 }
 
+pub slice_bounds-toggle_all-end : goal.slice_bounds-toggle_all-end
+slice_bounds-toggle_all-end c =
+    sym (length-take-le _ _ (tops_led (filter_holds _ _ _ _ _ _ c.requires.boundary_value) c.requires.room.some).0)
+
 pub toggle_all-requires : goal.toggle_all-requires
 toggle_all-requires c =
     let H = filter_holds _ _ _ _ _ _ c.requires.boundary_value in
     tops_fit H c.xor_bits.new.to_blocks (omega (arith, c.xor_bits.auto.to_blocks))
+
+pub slice_bounds-toggle_all-end-2 : goal.slice_bounds-toggle_all-end-2
+slice_bounds-toggle_all-end-2 c =
+    sym (length-take-le _ _ (tops_led (filter_holds _ _ _ _ _ _ c.requires.boundary_value_2) c.requires.room.some).0)
 
 pub toggle_all-requires-2 : goal.toggle_all-requires-2
 toggle_all-requires-2 c =

@@ -1,7 +1,13 @@
 -- `figures::figures_of` meets its contract: filters that were judged are refused by no call, so the figures are those of the sets
 -- shown.
-use Rattle.figures.proofs.Asked.{counts_fit, figures_are_lem}
+use Rattle.figures.proofs.Asked.{counts_fit, figures_are_lem, first_passed, mask_passed, second_passed}
 use Rattle.figures.proofs.figures_of.Goals as goal
+
+pub single_for-first-requires : goal.single_for-first-requires
+single_for-first-requires c = record { filter = first_passed _ _ _ _ _ _ _ _ c.requires; mask = mask_passed _ _ _ _ _ _ _ _ c.requires }
+
+pub single_for-second-requires : goal.single_for-second-requires
+single_for-second-requires c = record { filter = second_passed _ _ _ _ _ _ _ _ c.requires; mask = mask_passed _ _ _ _ _ _ _ _ c.requires }
 
 pub overlap-requires : goal.overlap-requires
 overlap-requires c =

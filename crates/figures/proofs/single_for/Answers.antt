@@ -1,12 +1,20 @@
--- `figures::single_for` meets its contract: each figure is read off the answer of its call.
-use mathlib.Core.Path.{ap, ◌∙◌}
-use Rattle.figures.specs.Figures.{count_in, key_in, limited_in, single_for}
+-- `figures::single_for` meets its contract: a filter that was judged is refused by no call.
+use mathlib.Core.Path.{◌∙◌}
+use Rattle.figures.proofs.Asked.{exact_answered, is_answer, key_answered, limited_answered, the_answer}
 use Rattle.figures.proofs.single_for.Goals as goal
 
+pub unwrap-requires : goal.unwrap-requires
+unwrap-requires c = is_answer (c.exact_count.ensures ∙ exact_answered _ _ _ c.requires.filter)
+
+pub unwrap-requires-2 : goal.unwrap-requires-2
+unwrap-requires-2 c = is_answer (c.limited_count.ensures ∙ limited_answered _ _ _ c.requires.filter)
+
+pub unwrap-requires-3 : goal.unwrap-requires-3
+unwrap-requires-3 c = is_answer (c.masked_sort_key.ensures ∙ key_answered _ _ _ c.requires.filter _ _ c.requires.mask)
+
 pub returns : goal.returns
-unfolding single_for
 returns c =
-    let ones = c.count_in.ensures ∙ ap count_in c.exact_count.ensures in
-    let limited = c.limited_in.ensures ∙ ap limited_in c.limited_count.ensures in
-    let key = c.key_in.ensures ∙ ap key_in c.masked_sort_key.ensures in
+    let ones = the_answer (c.exact_count.ensures ∙ exact_answered _ _ _ c.requires.filter) c.unwrap.ensures in
+    let limited = the_answer (c.limited_count.ensures ∙ limited_answered _ _ _ c.requires.filter) c.unwrap-2.ensures in
+    let key = the_answer (c.masked_sort_key.ensures ∙ key_answered _ _ _ c.requires.filter _ _ c.requires.mask) c.unwrap-3.ensures in
     λ i. record { ones = ones i; limited = limited i; key = key i }

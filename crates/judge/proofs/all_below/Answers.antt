@@ -4,5 +4,5 @@ use native.Mathlib.Omega.{arith}
 use Rattle.sets.proofs.Tests.{below_all}
 use Rattle.judge.proofs.all_below.Goals as goal
 
-pub returns-then-limit-ge4294967296 : goal.returns-then-limit-ge4294967296
-returns-then-limit-ge4294967296 c = sym (below_all _ c.args.list.now (λ i _. omega (arith, c.type_inv.list i)))
+pub returns-in-Err : goal.returns-in-Err
+returns-in-Err c = sym (below_all _ c.args.list.now (λ i _. let h = c.in-Err.ensures in omega (arith, c.type_inv.list i)))

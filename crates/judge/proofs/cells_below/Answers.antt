@@ -2,11 +2,11 @@
 use Rattle.judge.proofs.Soundness.{ask_start, ask_turn, ask_end}
 use Rattle.judge.proofs.cells_below.Goals as goal
 
-pub loop-i-init : goal.loop-i-init
-loop-i-init c = ask_start _ _
+pub loop-bucket-init : goal.loop-bucket-init
+loop-bucket-init c = ask_start _ _
 
-pub loop-i-preserved : goal.loop-i-preserved
-loop-i-preserved c = ask_turn c.loop-i.invariant c.loop-i-test.true
+pub loop-bucket-preserved : goal.loop-bucket-preserved
+loop-bucket-preserved c = ask_turn c.loop-bucket.invariant c.loop-bucket-test.true
 
 pub returns : goal.returns
-returns c = ask_end c.loop-i.invariant c.loop-i-test.false
+returns c = ask_end c.loop-bucket.invariant c.loop-bucket-test.false

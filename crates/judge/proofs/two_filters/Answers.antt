@@ -2,23 +2,10 @@
 use mathlib.Core.Path.{◌≡◌, refl, sym, ◌∙◌}
 use mathlib.Core.Bool.{Bool, true, false, not}
 use borrow.Author.Tests.{not-true, not-false, eq-eqb, ne_eqb}
-use Rattle.sizes.specs.Sizes.{sizes_of}
-use Rattle.sizes.specs.declared.SizesAnswer.TheVariants.{Known}
 use Rattle.sizes.proofs.Laws.{known_of}
 use Rattle.judge.proofs.Verdicts.{room_told, two_first, two_second, two_rest}
+use Rattle.sizes.proofs.Laws.{handed_on}
 use Rattle.judge.proofs.two_filters.Goals as goal
-use Rattle.judge.proofs.two_filters.Goals.{In-Known-sizes_of}
-
--- the place where both configurations are known
-module _ (k : In-Known-sizes_of) where
-  first :
-      sizes_of k.args.config ≡ Known k.in-Known.s
-  first =
-      sym k.sizes_of.ensures ∙ k.in-Known.is
-
-  second :
-      sizes_of k.args.config2 ≡ Known k.in-Known-sizes_of.o
-  second = sym k.sizes_of-2.ensures ∙ k.in-Known-sizes_of.is
 
 -- what a test told of what it answers
 held : {r b : Bool} → r ≡ b → not r ≡ false → true ≡ b
@@ -27,41 +14,41 @@ held {r} e h = sym (not-false r h) ∙ e
 failed : {r b : Bool} → r ≡ b → not r ≡ true → false ≡ b
 failed {r} e h = sym (not-true r h) ∙ e
 
-pub returns-in_default : goal.returns-in_default
-returns-in_default c = two_first _ _ _ _ _ _ _ _ _ _ _ (sym c.sizes_of.ensures ∙ c.in_default.is)
+pub returns-in_err-s : goal.returns-in_err-s
+returns-in_err-s c = handed_on _ c.from_residual.ensures.1 ∙ two_first _ _ _ _ _ _ _ _ _ _ _ (sym c.sizes_of.ensures ∙ c.in_err-s.was)
 
-pub returns-in_default-sizes_of : goal.returns-in_default-sizes_of
-returns-in_default-sizes_of c =
-    two_second _ _ _ _ _ _ _ _ _ _ _ (sym c.sizes_of.ensures ∙ c.in-Known.is) _
-    (sym c.sizes_of-2.ensures ∙ c.in_default-sizes_of.is)
+pub returns-in_err-o : goal.returns-in_err-o
+returns-in_err-o c =
+    handed_on _ c.from_residual-in_err-o.ensures.1 ∙ two_second _ _ _ _ _ _ _ _ _ _ _ (sym c.sizes_of.ensures ∙ c.in_ok-s.was) _
+    (sym c.sizes_of-2.ensures ∙ c.in_err-o.was)
 
 pub returns-then-not-has_room : goal.returns-then-not-has_room
 returns-then-not-has_room c =
-    two_rest _ _ _ _ _ _ _ _ _ _ _ _ (first (goal.at.returns-then-not-has_room c).In-Known-sizes_of) (second (goal.at.returns-then-not-has_room c).In-Known-sizes_of) false _ _ _ _ _
+    two_rest _ _ _ _ _ _ _ _ _ _ _ _ (sym c.sizes_of.ensures ∙ c.in_ok-s.was) (sym c.sizes_of-2.ensures ∙ c.in_ok-o.was) false _ _ _ _ _
     (failed c.has_room.ensures c.if-not-has_room.true-raw)
     refl refl refl refl refl
 
 pub returns-then-not-has_room-2 : goal.returns-then-not-has_room-2
 returns-then-not-has_room-2 c =
-    two_rest _ _ _ _ _ _ _ _ _ _ _ _ (first (goal.at.returns-then-not-has_room-2 c).In-Known-sizes_of) (second (goal.at.returns-then-not-has_room-2 c).In-Known-sizes_of) true false _ _ _ _
+    two_rest _ _ _ _ _ _ _ _ _ _ _ _ (sym c.sizes_of.ensures ∙ c.in_ok-s.was) (sym c.sizes_of-2.ensures ∙ c.in_ok-o.was) true false _ _ _ _
     (held c.has_room.ensures c.if-not-has_room.false-raw)
     (failed c.has_room-2.ensures c.if-not-has_room-2.true-raw)
     refl refl refl refl
 
 pub returns-then-not-has_room-3 : goal.returns-then-not-has_room-3
 returns-then-not-has_room-3 c =
-    two_rest _ _ _ _ _ _ _ _ _ _ _ _ (first (goal.at.returns-then-not-has_room-3 c).In-Known-sizes_of) (second (goal.at.returns-then-not-has_room-3 c).In-Known-sizes_of) true true false _ _ _
+    two_rest _ _ _ _ _ _ _ _ _ _ _ _ (sym c.sizes_of.ensures ∙ c.in_ok-s.was) (sym c.sizes_of-2.ensures ∙ c.in_ok-o.was) true true false _ _ _
     (held c.has_room.ensures c.if-not-has_room.false-raw)
     (held c.has_room-2.ensures c.if-not-has_room-2.false-raw)
     (failed c.has_room-3.ensures c.if-not-has_room-3.true-raw)
     refl refl refl
 
 pub is_filter-requires : goal.is_filter-requires
-is_filter-requires c = room_told _ _ _ _ (known_of _ _ (first (goal.at.is_filter-requires c).In-Known-sizes_of)).1 (held c.has_room.ensures c.if-not-has_room.false-raw)
+is_filter-requires c = room_told _ _ _ _ (known_of _ _ (sym c.sizes_of.ensures ∙ c.in_ok-s.was)).1 (held c.has_room.ensures c.if-not-has_room.false-raw)
 
 pub returns-then-not-is_filter : goal.returns-then-not-is_filter
 returns-then-not-is_filter c =
-    two_rest _ _ _ _ _ _ _ _ _ _ _ _ (first (goal.at.returns-then-not-is_filter c).In-Known-sizes_of) (second (goal.at.returns-then-not-is_filter c).In-Known-sizes_of) true true true false _ _
+    two_rest _ _ _ _ _ _ _ _ _ _ _ _ (sym c.sizes_of.ensures ∙ c.in_ok-s.was) (sym c.sizes_of-2.ensures ∙ c.in_ok-o.was) true true true false _ _
     (held c.has_room.ensures c.if-not-has_room.false-raw)
     (held c.has_room-2.ensures c.if-not-has_room-2.false-raw)
     (held c.has_room-3.ensures c.if-not-has_room-3.false-raw)
@@ -69,11 +56,11 @@ returns-then-not-is_filter c =
     refl refl
 
 pub is_filter-requires-2 : goal.is_filter-requires-2
-is_filter-requires-2 c = room_told _ _ _ _ (known_of _ _ (second (goal.at.is_filter-requires-2 c).In-Known-sizes_of)).1 (held c.has_room-2.ensures c.if-not-has_room-2.false-raw)
+is_filter-requires-2 c = room_told _ _ _ _ (known_of _ _ (sym c.sizes_of-2.ensures ∙ c.in_ok-o.was)).1 (held c.has_room-2.ensures c.if-not-has_room-2.false-raw)
 
 pub returns-then-not-is_filter-2 : goal.returns-then-not-is_filter-2
 returns-then-not-is_filter-2 c =
-    two_rest _ _ _ _ _ _ _ _ _ _ _ _ (first (goal.at.returns-then-not-is_filter-2 c).In-Known-sizes_of) (second (goal.at.returns-then-not-is_filter-2 c).In-Known-sizes_of) true true true true false _
+    two_rest _ _ _ _ _ _ _ _ _ _ _ _ (sym c.sizes_of.ensures ∙ c.in_ok-s.was) (sym c.sizes_of-2.ensures ∙ c.in_ok-o.was) true true true true false _
     (held c.has_room.ensures c.if-not-has_room.false-raw)
     (held c.has_room-2.ensures c.if-not-has_room-2.false-raw)
     (held c.has_room-3.ensures c.if-not-has_room-3.false-raw)
@@ -83,7 +70,7 @@ returns-then-not-is_filter-2 c =
 
 pub returns-then-config-config2 : goal.returns-then-config-config2
 returns-then-config-config2 c =
-    two_rest _ _ _ _ _ _ _ _ _ _ _ _ (first (goal.at.returns-then-config-config2 c).In-Known-sizes_of) (second (goal.at.returns-then-config-config2 c).In-Known-sizes_of) true true true true true false
+    two_rest _ _ _ _ _ _ _ _ _ _ _ _ (sym c.sizes_of.ensures ∙ c.in_ok-s.was) (sym c.sizes_of-2.ensures ∙ c.in_ok-o.was) true true true true true false
     (held c.has_room.ensures c.if-not-has_room.false-raw)
     (held c.has_room-2.ensures c.if-not-has_room-2.false-raw)
     (held c.has_room-3.ensures c.if-not-has_room-3.false-raw)
@@ -93,7 +80,7 @@ returns-then-config-config2 c =
 
 pub returns : goal.returns
 returns c =
-    two_rest _ _ _ _ _ _ _ _ _ _ _ _ (first (goal.at.returns c).In-Known-sizes_of) (second (goal.at.returns c).In-Known-sizes_of) true true true true true true
+    two_rest _ _ _ _ _ _ _ _ _ _ _ _ (sym c.sizes_of.ensures ∙ c.in_ok-s.was) (sym c.sizes_of-2.ensures ∙ c.in_ok-o.was) true true true true true true
     (held c.has_room.ensures c.if-not-has_room.false-raw)
     (held c.has_room-2.ensures c.if-not-has_room-2.false-raw)
     (held c.has_room-3.ensures c.if-not-has_room-3.false-raw)

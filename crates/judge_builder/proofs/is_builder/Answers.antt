@@ -3,6 +3,8 @@ use mathlib.Core.Path.{sym}
 use native.Mathlib.Omega.{arith}
 use lib.Seq.{length-take-le}
 use borrow.Author.Tests.{not-true, not-false}
+use Rattle.bitvec.proofs.Gathering.{gathered}
+use Rattle.judge.proofs.Soundness.{slice_tells}
 use Rattle.judge_builder.proofs.Soundness.{unsound, past_range, by_bits}
 use Rattle.judge_builder.proofs.is_builder.Goals as goal
 
@@ -20,12 +22,13 @@ returns-then-not-all_below c =
     let r = c.all_below in
     past_range _ _ _ _ _ _ r.ensures (not-true _ c.if-not-all_below.true-raw)
 
-pub returns-then-or_cells-ne0 : goal.returns-then-or_cells-ne0
-returns-then-or_cells-ne0 c = unsound _ _ _ _ _ (λ S. c.if-or_cells-ne0.true (c.or_cells.ensures.1 S.unused))
+pub returns-then-or-ne0 : goal.returns-then-or-ne0
+returns-then-or-ne0 c = unsound _ _ _ _ _ (λ S. c.if-or-ne0.true ((gathered _ _ _ _ c.or.ensures).1 S.unused))
 
 pub returns : goal.returns
 returns c =
     let r = c.all_below in
     by_bits _ _ _ _ _ _ r.ensures (not-false _ c.if-not-all_below.false-raw)
     c.if-m-count.false c.if-k-stage.false
-    (c.or_cells.ensures.0 c.if-or_cells-ne0.false) _ c.bits_fit.ensures
+    ((gathered _ _ _ _ c.or.ensures).0 c.if-or-ne0.false) _
+    (slice_tells _ _ c.requires.blocks_in _ c.bits_fit.ensures)

@@ -8,7 +8,7 @@ pub loop-i-init : goal.loop-i-init
 loop-i-init c = refl
 
 pub row_entry-requires : goal.row_entry-requires
-row_entry-requires c = (c.requires.0, entry_room _ c.loop-i-test.true c.requires.1)
+row_entry-requires c = entry_room _ c.loop-i-test.true c.requires
 
 pub returns-then-row_entry-limit : goal.returns-then-row_entry-limit
 returns-then-row_entry-limit c = fit_not _ _ _ _ _ c.loop-i.invariant c.loop-i-test.true _ c.row_entry.ensures c.if-row_entry-limit.true

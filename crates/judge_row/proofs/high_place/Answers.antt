@@ -6,7 +6,7 @@ pub returns-then-boundary-eq0 : goal.returns-then-boundary-eq0
 returns-then-boundary-eq0 c = no_blocks _ _ _ _ c.if-boundary-eq0.true c.requires.0
 
 pub returns-then-last-bit-lt2 : goal.returns-then-last-bit-lt2
-returns-then-last-bit-lt2 c = high_none _ _ _ _ _ c.requires.0 c.if-boundary-eq0.false c.read_u64-last.ensures c.if-last-bit-lt2.true
+returns-then-last-bit-lt2 c = high_none _ _ _ _ _ c.requires.0 c.if-boundary-eq0.false c.read-last.ensures c.if-last-bit-lt2.true
 
 pub returns : goal.returns
-returns c = high_at _ _ _ _ _ c.requires.0 c.if-boundary-eq0.false c.read_u64-last.ensures c.lowest_above.ensures
+returns c = high_at _ _ _ _ _ c.requires.0 c.if-boundary-eq0.false c.read-last.ensures c.lowest_above.ensures

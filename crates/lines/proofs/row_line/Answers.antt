@@ -1,22 +1,21 @@
 -- `lines::row_line` meets its contract: the bytes that the line spells are read as a row.
 use mathlib.Core.Path.{sym}
 use lib.Seq.{length-take-le}
-use Rattle.lines.proofs.Paths.{no_hex, row_in, row_told}
+use Rattle.lines.proofs.Paths.{malformed, missing, no_hex, row_in, row_told, there}
 use Rattle.lines.proofs.row_line.Goals as goal
-use Rattle.lines.proofs.row_line.Goals.{In-Bytes}
 
 pub slice_bounds-row-end : goal.slice_bounds-row-end
-slice_bounds-row-end c = row_in c.args.line.now _ c.from_hex.ensures c.in-Bytes.is
+slice_bounds-row-end c = row_in c.args.line.now _ c.from_hex.ensures (there c.ok_or.ensures.value c.in_ok-n.was)
 
 pub slice_bounds-read-end : goal.slice_bounds-read-end
-slice_bounds-read-end c = sym (length-take-le _ _ (slice_bounds-row-end (goal.at.slice_bounds-read-end c).In-Bytes))
+slice_bounds-read-end c = sym (length-take-le _ _ (row_in c.args.line.now _ c.from_hex.ensures (there c.ok_or.ensures.value c.in_ok-n.was)))
 
-pub returns-in-Bytes : goal.returns-in-Bytes
-returns-in-Bytes c =
+pub returns : goal.returns
+returns c =
     row_told c.args.line.now _ c.from_hex.ensures _ _ _
-    c.in-Bytes.is c.requires.blocks_value c.read.ensures
+    (there c.ok_or.ensures.value c.in_ok-n.was) c.requires.blocks_value c.read.ensures
 
-pub returns-in-Malformed : goal.returns-in-Malformed
-returns-in-Malformed c =
-    no_hex c.args.line.now _ c.from_hex.ensures _ _ _
-    c.in-Malformed.is
+pub returns-in_err-n : goal.returns-in_err-n
+returns-in_err-n c =
+    no_hex c.args.line.now _ c.from_hex.ensures _ _ _ (missing c.ok_or.ensures.value c.in_err-n.was)
+    (malformed c.from_hex.result c.ok_or.ensures.value c.in_err-n.was _ c.from_residual.ensures.1)

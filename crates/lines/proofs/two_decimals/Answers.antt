@@ -1,42 +1,17 @@
--- `lines::two_decimals` meets its contract: each path by its law.
-use mathlib.Core.Path.{sym}
-use Prim.Native.Nat.{◌<◌}
-use native.Mathlib.Omega.{arith}
-use lib.ListN.{length}
-use lib.Seq.{length-take-le}
-use Rattle.lines.proofs.Paths.{before_end, no_mask, no_size, no_space, two_told}
+-- `lines::two_decimals` meets its contract: both decimals are there, or the line is malformed.
+use mathlib.Core.Path.{ap, ◌∙◌}
+use Rattle.lines.specs.Lines.{mask_told}
+use Rattle.lines.proofs.Paths.{malformed, missing, no_size, there, two_told}
 use Rattle.lines.proofs.two_decimals.Goals as goal
-use Rattle.lines.proofs.two_decimals.Goals.{In-At-1, In-At}
 
--- the space stands in the text
-end-in : (c : In-At) → c.in-At.end < length c.args.text.now
-end-in c =
-    before_end c.args.text.now c.find.ensures c.in-At.is
+pub returns : goal.returns
+returns c =
+    two_told _ c.find.ensures (there c.ok_or.ensures.value c.in_ok-end.was) c.decimal.ensures
+    (there c.ok_or-2.ensures.value c.in_ok-mask.was) c.decimal-2.ensures
+    (there c.ok_or-3.ensures.value c.in_ok-size.was) c.judged_mask.ensures
 
-pub returns-in_default : goal.returns-in_default
-returns-in_default c = no_space _ c.find.ensures c.in_default.is
-
-pub slice_bounds-decimal-end : goal.slice_bounds-decimal-end
-slice_bounds-decimal-end c = sym (length-take-le _ _ (omega (arith, end-in (goal.at.slice_bounds-decimal-end c).In-At)))
-
-pub returns-in_default-decimal : goal.returns-in_default-decimal
-returns-in_default-decimal c = no_mask _ c.find.ensures c.in-At.is c.decimal.ensures c.in_default-decimal.is
-
-pub overflow_add-next : goal.overflow_add-next
-overflow_add-next c = omega (arith, end-in (goal.at.overflow_add-next c).In-At)
-
-pub slice_bounds-decimal-count : goal.slice_bounds-decimal-count
-slice_bounds-decimal-count c = omega (arith, end-in (goal.at.slice_bounds-decimal-count c).In-At)
-
-pub slice_bounds-decimal-start : goal.slice_bounds-decimal-start
-slice_bounds-decimal-start c = slice_bounds-decimal-count c
-
-pub returns-in-Is-decimal : goal.returns-in-Is-decimal
-returns-in-Is-decimal c =
-    two_told _ c.find.ensures c.in-At.is c.decimal.ensures c.in-Is.is c.decimal-2.ensures
-    c.in-Is-decimal.is c.judged_mask.ensures
-
-pub returns-in-Malformed : goal.returns-in-Malformed
-returns-in-Malformed c =
-    no_size _ c.find.ensures c.in-At.is c.decimal.ensures c.in-Is.is c.decimal-2.ensures
-    c.in-Malformed.is
+pub returns-in_err-size : goal.returns-in_err-size
+returns-in_err-size c =
+    ap mask_told (malformed c.decimal-2.result c.ok_or-3.ensures.value c.in_err-size.was _ c.from_residual-in_err-size.ensures.1)
+    ∙ no_size _ c.find.ensures (there c.ok_or.ensures.value c.in_ok-end.was) c.decimal.ensures
+    (there c.ok_or-2.ensures.value c.in_ok-mask.was) c.decimal-2.ensures (missing c.ok_or-3.ensures.value c.in_err-size.was)

@@ -1,16 +1,13 @@
 -- `masked::pack` meets its contract: the answer is told by the slots filled and the members still to be given.
 use Prim.Native.Nat.{◌*◌}
-use lib.ListN.{take}
 use Rattle.sets.specs.Sets.{members}
-use Rattle.sets.specs.Masks.{kept}
-use Rattle.bitchunks.specs.Walk.{filter_set}
 use Rattle.masked.proofs.Packing.{Packing}
 use Rattle.masked.proofs.pack.Given as goal
 
 abbrev pub invariant-loop-p : goal.invariant-loop-p
-invariant-loop-p l =
-    let S = kept l.block_mask l.size (filter_set l.top l.count l.blocks l.n) in
-    Packing S (take l.count l.top) l.bits (members S (64 * l.k)) l.key l.room l.at.passed l.at.end l.at.block
+invariant-loop-p g l =
+    let w = g.W.BitChunks in
+    Packing (w.set l.walk) (w.tops l.walk) l.bits (members (w.set l.walk) (64 * l.k)) l.key l.room l.at.cursor.passed l.at.cursor.end l.at.block
 
 abbrev pub decreases-loop-p : goal.decreases-loop-p
-decreases-loop-p l = l.room
+decreases-loop-p g l = l.room

@@ -1,7 +1,10 @@
 -- `pending::compact` meets its contract: what is taken out of the blocks again is what stands at or above the split.
 use native.Mathlib.Omega.{arith}
+use Rattle.bitvec.proofs.Filling.{zeroed_fill}
 use Rattle.pending.proofs.Compacting.{Taken, take_none, take_some, fold_fits, compacted}
+use Rattle.bitvec.proofs.Filling.{zeroed_fill}
 use Rattle.pending.proofs.compact.Goals as goal
+use Rattle.bitvec.proofs.Filling.{zeroed_fill}
 use Rattle.pending.proofs.compact.Goals.{Joined-count-gt0, else-count-gt0, then-count-gt0}
 
 -- what stands at or above the split is taken out
@@ -18,8 +21,8 @@ is_taken c =
 pub toggle_all-requires : goal.toggle_all-requires
 toggle_all-requires c = fold_fits c.requires.room c.requires.staged
 
-pub zero_cells-requires : goal.zero_cells-requires
-zero_cells-requires c = omega (arith, c.settle-next.ensures.few, (is_taken (goal.at.zero_cells-requires c).Joined-count-gt0).pending_length, c.requires.room.cells)
-
 pub returns : goal.returns
-returns c = compacted c.requires.room c.requires.staged c.toggle_all.ensures c.settle-next.ensures (is_taken (goal.at.returns c).Joined-count-gt0) c.zero_cells.ensures
+returns c =
+    let t = is_taken (goal.at.returns c).Joined-count-gt0 in
+    compacted c.requires.room c.requires.staged c.toggle_all.ensures c.settle-next.ensures t
+    (zeroed_fill _ _ _ (omega (arith, c.settle-next.ensures.few)) (omega (arith, t.pending_length, c.requires.room.cells)) c.fill.ensures.after)
