@@ -17,30 +17,25 @@ fn row_of(list: &[u32], to: &mut [u8]) -> Result<usize, Refusal> {
     rows::write(f, &top, &blocks, to)
 }
 
-// The size of the set that has the first n bytes for its row.
-// n, since the bytes were lent for writing before.
-fn opened(bytes: &[u8], n: usize) -> Result<usize, Refusal> {
-    let row = bytes.get(..n).ok_or(Refusal::RowLength)?;
-    rows::open(7, row)
-}
-
 fn the_empty_row() -> bool {
     let mut to = [9u8; 4];
-    row_of(&[], &mut to) == Ok(0) && to[0] == 9 && opened(&to, 0) == Ok(0)
+    row_of(&[], &mut to) == Ok(0) && to[0] == 9 && rows::open(7, &to[..0]) == Ok(0)
 }
 
 fn a_full_list_down_to_bucket_0_has_no_bit_part() -> bool {
     let mut to = [9u8; 40];
     let list = [11u32, 10, 9, 8, 7, 6, 5, 4, 3, 2, 1, 0];
     let length = row_of(&list, &mut to);
-    length == Ok(24) && to[0] == 11 && to[24] == 9 && opened(&to, 24) == Ok(12)
+    let (row, rest) = to.split_at(24);
+    length == Ok(24) && row[0] == 11 && rest[0] == 9 && rows::open(7, row) == Ok(12)
 }
 
 fn a_row_cut_at_24_bytes_is_refused() -> bool {
     let mut to = [9u8; 40];
     let list = [12u32, 11, 10, 9, 8, 7, 6, 5, 4, 3, 2, 1];
     let length = row_of(&list, &mut to);
-    length == Ok(33) && opened(&to, 33) == Ok(12) && opened(&to, 24) == Err(Refusal::NoSet)
+    let (row, cut) = (&to[..33], &to[..24]);
+    length == Ok(33) && rows::open(7, row) == Ok(12) && rows::open(7, cut) == Err(Refusal::NoSet)
 }
 
 fn a_row_cut_between_entries_is_another_row() -> bool {
@@ -48,9 +43,9 @@ fn a_row_cut_between_entries_is_another_row() -> bool {
     let list = [12u32, 11, 10, 9, 8, 7, 6, 5, 4, 3, 2, 1];
     let length = row_of(&list, &mut to);
     length == Ok(33)
-        && opened(&to, 22) == Ok(11)
-        && opened(&to, 2) == Ok(1)
-        && opened(&to, 0) == Ok(0)
+        && rows::open(7, &to[..22]) == Ok(11)
+        && rows::open(7, &to[..2]) == Ok(1)
+        && rows::open(7, &to[..0]) == Ok(0)
 }
 
 // The length of the row, its spare byte and the lowest byte of its blocks.

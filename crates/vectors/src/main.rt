@@ -26,7 +26,7 @@ const LONGEST_ROW: usize = 68049;
 // ---- a set
 
 // A filter with areas of its own, which have room in each configuration.
-#[derive(Drop)]
+#[derive(PartialEq, Drop)]
 struct Set {
     f: Filter,
     top: [u32; 384],
@@ -34,44 +34,32 @@ struct Set {
 }
 
 impl Set {
-    fn empty(config: u64) -> Result<Set, Refusal> {
+    // What a call makes in new areas.
+    fn made<F: FnOnce(&mut [u32], &mut [u64]) -> Result<Filter, Refusal>>(
+        make: F,
+    ) -> Result<Set, Refusal>
+        requires { F.IsAlwaysCallable make }
+    {
         let mut top = [0; 384];
         let mut blocks = [0; 8320];
-        let f = diff_count::empty(config, &mut top, &mut blocks)?;
-        Ok(Set { f, top, blocks })
-    }
-
-    // The set of a builder.
-    fn built(b: Builder, pending: &[u32], bits: &[u64]) -> Result<Set, Refusal> {
-        let mut top = [0; 384];
-        let mut blocks = [0; 8320];
-        let f = b.finish(pending, bits, &mut top, &mut blocks)?;
-        Ok(Set { f, top, blocks })
-    }
-
-    // The set that has the row.
-    fn read(config: u64, row: &[u8]) -> Result<Set, Refusal> {
-        let mut top = [0; 384];
-        let mut blocks = [0; 8320];
-        let f = rows::read(config, row, &mut top, &mut blocks)?;
+        let f = make(&mut top, &mut blocks)?;
         Ok(Set { f, top, blocks })
     }
 
     // The buckets that exactly one of two sets holds.
     fn difference(&self, other: &Set) -> Result<Set, Refusal> {
-        let mut top = [0; 384];
-        let mut blocks = [0; 8320];
-        let f = diff_count::symmetric_difference(
-            self.f,
-            &self.top,
-            &self.blocks,
-            other.f,
-            &other.top,
-            &other.blocks,
-            &mut top,
-            &mut blocks,
-        )?;
-        Ok(Set { f, top, blocks })
+        Set::made(|top, blocks| {
+            diff_count::symmetric_difference(
+                self.f,
+                &self.top,
+                &self.blocks,
+                other.f,
+                &other.top,
+                &other.blocks,
+                top,
+                blocks,
+            )
+        })
     }
 
     fn toggle(&mut self, list: &[u32]) -> Result<(), Refusal> {
@@ -85,17 +73,12 @@ impl Set {
         to.get(..n).ok_or(Refusal::Room)
     }
 
-    // Whether record and areas are the same.
-    fn is_same(&self, other: &Set) -> bool {
-        self.f == other.f && self.top == other.top && self.blocks == other.blocks
-    }
-
     // Whether that is the set's row: it is what we write, and reading it gives the filter.
     fn has_row(&self, row: &[u8]) -> Result<bool, Refusal> {
         let mut to = [0; LONGEST_ROW];
         let written = self.write(&mut to)?;
-        let read = Set::read(self.f.config, row)?;
-        Ok(written == row && read.is_same(self))
+        let read = Set::made(|top, blocks| rows::read(self.f.config, row, top, blocks))?;
+        Ok(written == row && read == *self)
     }
 }
 
@@ -182,7 +165,7 @@ impl<'a> Fields<'a> {
 
     // The set of the buckets that are listed.
     fn set(&mut self, config: u64) -> Result<Set, Refusal> {
-        let mut set = Set::empty(config)?;
+        let mut set = Set::made(|top, blocks| diff_count::empty(config, top, blocks))?;
         self.toggle(&mut set)?;
         Ok(set)
     }
@@ -268,7 +251,7 @@ fn build_line(fields: &mut Fields<'_>, config: u64) -> Result<bool, Refusal> {
     let b = b.push(&mut pending, &mut bits, fields.buckets(&mut list)?)?;
     let b = b.raise(&pending, &bits, fields.number()? as usize)?;
     let b = b.push(&mut pending, &mut bits, fields.buckets(&mut list)?)?;
-    let set = Set::built(b, &pending, &bits)?;
+    let set = Set::made(|top, blocks| b.finish(&pending, &bits, top, blocks))?;
     fields.has_row_of(&set)
 }
 
