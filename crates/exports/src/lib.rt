@@ -530,7 +530,9 @@ pub extern "C" fn zamgulekt_row_reader_step(
 {
     let [config, place] = *reader;
     let next = row_reader::step_at(row, config, place as usize);
-    *reader = [config, next.place as u64];
+    if let Ok(Some(_)) = next.answer {
+        *reader = [config, next.place as u64];
+    }
     put(step, next.answer)
 }
 
