@@ -1,6 +1,6 @@
 -- Two outcomes of an exported call coincide, of a push their sets do; a refusal is told by 01's number, and 0 exactly where a call
 -- was taken; and the reader from C is the row reader. Assumes nothing.
-use mathlib.Core.Path.{◌≡◌, refl, sym, ap, ◌∙◌, subst}
+use mathlib.Core.Path.{◌≡◌, refl, sym, ap, ◌∙◌}
 use mathlib.Core.List.{List, [], ◌∷◌, ◌++◌}
 use Prim.Native.Nat.{ℕ}
 use denote.Ref.{Bor}
@@ -114,17 +114,30 @@ pub told_zero : {A C : Type 0} (cells : A → C) (a : Result A Refusal) (ts : Li
     → number_of (told cells (answer (verdict ts) (λ r. Err (refusal r)) a)) ≡ 0 → verdict ts ≡ taken
 told_zero cells a ts = zero_taken (told cells) (λ r. Err (refusal r)) a ts (λ k e. ap refuses (refusal_numbered ts e))
 
--- a push that is refused is told so too, and leaves the cells
-pub push_told : (b : Builder) (pending bits list p q : List ℕ) {k : Cause} {cells : List ℕ} {r : ℕ} {x : List ℕ}
-    → push_verdict b pending bits list ≡ refused k
-    → MakesBuilder (λ a. Pushes b pending bits list a p q) cells r x
-    → (r ≡ k.number) × (x ≡ cells)
-unfolding push_verdict
-push_told b pending bits list p q {k} {cells} e w =
-    let ts : List Test = builder_lent (record_in b) pending bits ++ (are_buckets (config_of b) list ∷ []) in
-    let o = subst (λ (v : Verdict). PushOutcome v b pending bits list w.answer p q) e w.keeps in
-    let t : told builder_cells w.answer ≡ refuses k.number = ap (told builder_cells) o.0 ∙ ap refuses (refusal_numbered ts e) in
-    (w.tells.number ∙ ap number_of t, w.tells.values ∙ ap (λ (y : Told (List ℕ)). cells_after y cells) t)
+-- a push, of which 01 leaves more open where it is taken, answers by its verdict too
+module _ (b : Builder) (pending bits list p q : List ℕ) where
+  abbrev tests : List Test
+  tests = builder_lent (record_in b) pending bits ++ (are_buckets (config_of b) list ∷ [])
+
+  by_verdict : (v : Verdict) {a : Result Builder Refusal} → PushOutcome v b pending bits list a p q
+      → a ≡ answer v (λ k. Err (refusal k)) a
+  by_verdict taken o = refl
+  by_verdict (refused k) o = o.0
+
+  module _ {cells : List ℕ} {r : ℕ} {x : List ℕ} (w : MakesBuilder (λ a. Pushes b pending bits list a p q) cells r x) where
+    telling : told builder_cells w.answer ≡ told builder_cells (answer (verdict tests) (λ k. Err (refusal k)) w.answer)
+    unfolding push_verdict
+    telling = ap (told builder_cells) (by_verdict (verdict tests) w.keeps)
+
+    pub push_told : {k : Cause} → push_verdict b pending bits list ≡ refused k → (r ≡ k.number) × (x ≡ cells)
+    unfolding push_verdict
+    push_told e =
+        let t = telling ∙ refusal_told builder_cells w.answer tests e in
+        (w.tells.number ∙ ap number_of t, w.tells.values ∙ ap (λ (y : Told (List ℕ)). cells_after y cells) t)
+
+    pub push_zero : r ≡ 0 → push_verdict b pending bits list ≡ taken
+    unfolding push_verdict
+    push_zero z = told_zero builder_cells w.answer tests (ap number_of (sym telling) ∙ sym w.tells.number ∙ z)
 
 -- ---- the reader: its cells, beside the row that it holds
 
