@@ -75,7 +75,8 @@ module _ (f : Filter) (top bits : List ℕ) (t : verdict (filter_lent (record_in
 -- ---- where the order would be answered
 
 -- no call is refused, and each answers the figure
-pub record Answered (f : Filter) (top bits : List ℕ) (g : Filter) (top2 bits2 : List ℕ) (mask size : ℕ) (a b : Single) (d : Pair) : Type 0 where
+pub record Answered (f : Filter) (top bits : List ℕ) (g : Filter) (top2 bits2 : List ℕ) (mask size : ℕ) (a b : Single)
+    (d : Pair) : Type 0 where
   pub ones : exact_of f top bits ≡ Ok a.ones
   pub limited : limited_of f top bits ≡ Ok a.limited
   pub key : key_for f top bits mask size ≡ Ok a.key
