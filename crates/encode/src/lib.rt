@@ -45,7 +45,7 @@ impl<const N: usize> Text<N> {
         self.len = put(&mut self.bytes, self.len, piece);
     }
 
-    // A space and a number in decimal; not by `write!`, whose error here and in `put_hex` would have to be shown not to come.
+    // A space and a number in decimal.
     pub fn put_decimal(&mut self, n: u64)
         requires { length self.old + 21 ≤ N }
         ensures { Puts 21 (space ∷ to_decimal n) self.old self.new }
@@ -83,6 +83,7 @@ pub fn put(out: &mut [u8], at: usize, bytes: &[u8]) -> usize
     end
 }
 
+// Not by `write!`, whose error here and in `put_hex` would have to be shown not to come.
 pub fn put_decimal(out: &mut [u8], at: usize, n: u64) -> usize
     requires { at + 21 ≤ length out.old }
     ensures { PutsAt 21 (space ∷ to_decimal n) out.old at out.new result }
