@@ -530,9 +530,11 @@ pub extern "C" fn zamgulekt_row_reader_step(
 {
     let [config, place] = *reader;
     let next = row_reader::step_at(row, config, place as usize);
-    if let Ok(Some(_)) = next.answer {
-        *reader = [config, next.place as u64];
+    // the place moves where a bucket is given, and else no cell of the reader is written
+    if next.place == place as usize {
+        return put(step, next.answer);
     }
+    *reader = [config, next.place as u64];
     put(step, next.answer)
 }
 
