@@ -223,6 +223,7 @@ impl<'a> BitChunks for FilterBlocks<'a> {
 
     fn merge(&self, passed: usize, i: usize) -> Merged {
         let mut block = self.block(i);
+        // `past`, and not the length, which is the same: where no entry is left nothing then depends on it, and a block takes less time
         let mut past = passed;
         for at in passed..self.top.len() {
             let bucket = buckets::into_usize(self.top[at]);
@@ -295,6 +296,7 @@ impl<'a> BitChunks for RowBlocks<'a> {
     fn merge(&self, passed: usize, i: usize) -> Merged {
         let layout = self.layout;
         let mut joined = self.block(i);
+        // as the filter's
         let mut past = passed;
         // The filter's loop again: one for both would take the entry by a closure, whose clauses are longer than the loop.
         for at in passed..layout.count {

@@ -35,7 +35,7 @@ named n mask size first second = go (rows_verdict n mask size first.now second.n
     go taken Greater = refl
     go (refused r) o = refl
 
--- where no bucket is given the place stays, so a reader's place may be written after every step
+-- the place after a step is that of the reader that is left, since it stays where no bucket is given
 pub place_kept : (reader row : List ℕ) → length reader ≡ 2
     → let n = get_or reader 0 0 in let place = get_or reader 1 0 in
     (n ∷ step_place n row place ∷ []) ≡ reader_after reader (step_answer n row place) (step_place n row place)

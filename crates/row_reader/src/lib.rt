@@ -38,6 +38,7 @@ fn bucket_at(row: &RowBlocks, k: usize, place: usize) -> Option<usize>
     ensures { result ≡ next_told (given_at (members (row_set row.now.layout row.now.row.now) (64 * k)) place) }
 {
     let mut at = Ones::start(k);
+    // one call of `next_one`, which then is part of the loop: with a second one behind it each turn took four times as long
     for passed in 0..=place {
         let (p, next) = bitchunks::next_one(row, at)?;
         if passed == place {
