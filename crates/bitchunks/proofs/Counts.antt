@@ -19,7 +19,7 @@ use Rattle.sets.proofs.Counts.{full_last, full_rest, members_below, members_mono
 use Rattle.sets.proofs.Filters.{holds_bits}
 use Rattle.sets.proofs.Split.{edge_low, set_split}
 use Rattle.sets.proofs.Words.{digit_word}
-use Rattle.bitchunks.specs.Walk.{PartsOf}
+use Rattle.bitchunks.specs.Walk.{BlocksOf}
 use Rattle.bitchunks.specs.Counts.{LimitedTo}
 
 -- ---- members
@@ -40,8 +40,8 @@ held_take : (n : ℕ) (blocks : List ℕ) (p : ℕ) → p < 64 * n → held (tak
 unfolding held
 held_take n blocks p l = ap (λ (x : ℕ). digit x (p % 64)) (get_or-take n blocks (p / 64) 0 (omega arith))
 
-module _ {m k : ℕ} {tops bits top blocks : List ℕ} {count edge : ℕ} {S : Set} (z : 0 < m)
-    (P : PartsOf tops bits top count blocks edge) (H : Holds m k top blocks count edge S) where
+module _ {m k : ℕ} {bits top blocks : List ℕ} {count edge : ℕ} {S : Set} (z : 0 < m) (P : BlocksOf bits blocks edge)
+    (H : Holds m k top blocks count edge S) where
   edge_within : boundary m (64 * k) S ≤ 64 * k
   edge_within = edge_low z (set_split m (64 * k) z S)
 
@@ -52,8 +52,8 @@ module _ {m k : ℕ} {tops bits top blocks : List ℕ} {count edge : ℕ} {S : S
       let B : Set = bits_of m (64 * k) S in
       ap length (members_same (onward (64 * from) (held bits)) (onward (64 * a) B) (64 * n)
       (λ p l. ap₂ ◌&&◌ (here p l (dec_le (64 * a) p)) (within p l))
-      ∙ sym (members_gap (onward (64 * a) B) (64 * n) (64 * k) (omega (arith, P.bits_count, H.edge_is, edge_within))
-      (λ p u l. ap (◌&&◌ (leb (64 * a) p)) (below_out (boundary m (64 * k) S) S p (omega (arith, P.bits_count, H.edge_is)))
+      ∙ sym (members_gap (onward (64 * a) B) (64 * n) (64 * k) (omega (arith, P.1, H.edge_is, edge_within))
+      (λ p u l. ap (◌&&◌ (leb (64 * a) p)) (below_out (boundary m (64 * k) S) S p (omega (arith, P.1, H.edge_is)))
       ∙ and-false (leb (64 * a) p))))
     where
       n : ℕ
@@ -61,8 +61,8 @@ module _ {m k : ℕ} {tops bits top blocks : List ℕ} {count edge : ℕ} {S : S
 
       within : (p : ℕ) → p < 64 * n → held bits p ≡ bits_of m (64 * k) S p
       within p l =
-          ap (λ (x : List ℕ). held x p) P.bits_are ∙ held_take (blocks_for edge) blocks p (omega (arith, P.bits_count))
-          ∙ holds_bits H p (omega (arith, P.bits_count, H.edge_is, edge_within))
+          ap (λ (x : List ℕ). held x p) P.0 ∙ held_take (blocks_for edge) blocks p (omega (arith, P.1))
+          ∙ holds_bits H p (omega (arith, P.1, H.edge_is, edge_within))
 
       here : (p : ℕ) → p < 64 * n → Dec (64 * a ≤ p) → leb (64 * from) p ≡ leb (64 * a) p
       here p l (yes h) = le-leb (64 * from) p (omega arith) ∙ sym (le-leb (64 * a) p h)
@@ -70,11 +70,10 @@ module _ {m k : ℕ} {tops bits top blocks : List ℕ} {count edge : ℕ} {S : S
 
   -- the members are those in the top list and those that the blocks hold
   pub exact_is_lem : (r : ℕ) → r ≡ length (members (held bits) (64 * length bits))
-      → length tops + r ≡ exact_count (64 * k) S
+      → count + r ≡ exact_count (64 * k) S
   exact_is_lem r f =
       omega (
         arith,
-        P.tops_count,
         H.count_is,
         held_onward 0 0 (omega arith),
         onward_all (held bits) (64 * length bits),
@@ -86,11 +85,11 @@ module _ {m k : ℕ} {tops bits top blocks : List ℕ} {count edge : ℕ} {S : S
   -- the limited count is read off the last top entry, and the blocks
   pub filter_limited : (last window lo from r bound : ℕ) → last ≡ last_entry m (64 * k) S → lo ≡ blocks_for last - window
       → from ≡ min lo (length bits) → r ≡ length (members (onward (64 * from) (held bits)) (64 * length bits))
-      → bound ≡ cond (leb (length tops + r) m) 0 (64 * lo) → LimitedTo m (64 * k) window S (length tops + r) bound
+      → bound ≡ cond (leb (count + r) m) 0 (64 * lo) → LimitedTo m (64 * k) window S (count + r) bound
   unfolding low limited_count
   filter_limited last window lo from r bound ea el ef er eb =
       let g : lo ≡ low m (64 * k) window S = el ∙ ap (λ (x : ℕ). blocks_for x - window) ea in
-      limited_of_lem (ap₂ ◌+◌ (P.tops_count ∙ H.count_is) (er ∙ held_onward lo from ef
+      limited_of_lem (ap₂ ◌+◌ H.count_is (er ∙ held_onward lo from ef
       ∙ ap (λ (x : ℕ). length (members (onward (64 * x) (bits_of m (64 * k) S)) (64 * k))) g)) g eb
 
 -- ---- the last top entry, where the list is full

@@ -14,9 +14,9 @@ use Rattle.sets.specs.Words.{block_at, digit, TopDigit}
 use Rattle.sets.specs.Masks.{kept, laid}
 use Rattle.sets.proofs.Laws.{differ_comm, flip_other, members_gap, members_head, members_none, members_same}
 use Rattle.sets.proofs.Masks.{kept_block, kept_same}
-use Rattle.sets.proofs.Words.{digit_pow, digit_word, digit_xor, digit_zero}
+use Rattle.sets.proofs.Words.{digit_pow, digit_word, digit_xor, digit_zero, word_none_back}
 use Rattle.bitchunks.specs.Walk.{Ahead, Next, Passed}
-use Rattle.bitchunks.specs.Ones.{Gives, left, rest}
+use Rattle.bitchunks.specs.Ones.{Gives, NextKept, left, rest}
 use Rattle.bitchunks.specs.declared.Cursor.{Cursor}
 use Rattle.bitchunks.specs.declared.Ones.{Ones}
 
@@ -33,6 +33,47 @@ module _ {S : Set} (mask size : ℕ) where
         is = e ∙ ap (λ (x : ℕ). bit_and x (block_at (laid mask size) i)) t.is ∙ sym (kept_block mask size S i);
         ahead = t.ahead;
       }
+
+-- ---- past the blocks that are 0
+
+-- no member stands in the blocks from `end` up to `start`
+pub record Skipping (S : Set) (tops : List ℕ) (start passed end : ℕ) : Type 0 where
+  pub ahead : Ahead tops passed end
+  pub within : end ≤ start
+  pub empty : Empty S (64 * end) (64 * start)
+
+pub skip_start : {tops : List ℕ} {start passed : ℕ} (S : Set) → Ahead tops passed start → Skipping S tops start passed start
+skip_start S a = record { ahead = a; within = omega arith; empty = λ p h l. absurd (omega arith) }
+
+module _ {S : Set} {tops : List ℕ} {start passed end : ℕ} (t : Skipping S tops start passed end) where
+  -- a step's gap joins what was passed before
+  skip_gap : (k : ℕ) → Empty S (64 * k) (64 * end) → Empty S (64 * k) (64 * start)
+  skip_gap k g p a b = go (dec_lt p (64 * end))
+    where
+      go : Dec (p < 64 * end) → S p ≡ false
+      go (yes h) = g p a h
+      go (no h) = t.empty p (omega arith) b
+
+  pub skip_none : Next S tops end None → NextKept S tops start None
+  skip_none n = skip_gap 0 n
+
+  module _ {block : ℕ} {c : Cursor} (n : Next S tops end (Some (block, c))) where
+    pub skip_turn : block ≡ 0 → Skipping S tops start c.passed c.end
+    skip_turn z =
+        record {
+          ahead = n.2.ahead;
+          within = omega (arith, n.0, t.within);
+          empty = λ p a b. go p a b (dec_lt p (64 * suc c.end));
+        }
+      where
+        go : (p : ℕ) → 64 * c.end ≤ p → p < 64 * start → Dec (p < 64 * suc c.end) → S p ≡ false
+        go p a b (yes h) =
+            let x : p ≡ 64 * c.end + (p - 64 * c.end) = omega arith in
+            ap S x ∙ word_none_back S (64 * c.end) 64 (sym n.2.is ∙ z) (p - 64 * c.end) (omega arith)
+        go p a b (no h) = skip_gap (suc c.end) n.1 p (omega arith) b
+
+    pub skip_end : (block ≡ 0 → ⊥) → NextKept S tops start (Some (block, c))
+    skip_end z = (omega (arith, z), (omega (arith, n.0, t.within), skip_gap (suc c.end) n.1, n.2))
 
 -- ---- what is left
 

@@ -16,6 +16,10 @@ pub record PartsOf (tops bits top : List ℕ) (count : ℕ) (blocks : List ℕ) 
   pub bits_are : bits ≡ take (blocks_for edge) blocks
   pub bits_count : length bits ≡ blocks_for edge
 
+-- the blocks of a filter with this boundary
+abbrev pub BlocksOf : List ℕ → List ℕ → ℕ → Type 0
+BlocksOf bits blocks edge = (bits ≡ take (blocks_for edge) blocks) × (length bits ≡ blocks_for edge)
+
 -- the block of the number i among the blocks from the number `first` on
 unfoldable pub bits_at : ℕ → List ℕ → ℕ → ℕ
 bits_at first bits i = cond (leb first i) (get_or bits (i - first) 0) 0

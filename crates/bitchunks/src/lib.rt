@@ -8,10 +8,10 @@ ghost use Rattle.sets.specs.Configurations.{blocks_for};
 ghost use Rattle.sets.specs.Filter.{Holds, exact_count, last_entry};
 ghost use Rattle.sets.specs.Masks.{kept};
 ghost use Rattle.sets.specs.Row.{little};
-ghost use Rattle.bitchunks.specs.Walk.{bits_at, merged, Ahead, Bounded, Next, PartsOf, Passed, Reached};
+ghost use Rattle.bitchunks.specs.Walk.{bits_at, merged, Ahead, BlocksOf, Bounded, Next, PartsOf, Passed, Reached};
 ghost use Rattle.bitchunks.specs.Xor.{NextApart};
 ghost use Rattle.bitchunks.specs.Rows.{Fitting, blocks, entries, row_set, width_bytes};
-ghost use Rattle.bitchunks.specs.Ones.{Gives, rest};
+ghost use Rattle.bitchunks.specs.Ones.{Gives, NextKept, rest};
 ghost use Rattle.bitchunks.specs.Counts.{FirstOf, LimitedTo};
 
 mod block_mask;
@@ -191,7 +191,7 @@ impl<'a> FilterBlocks<'a> {
             PartsOf self.now.top.now self.now.blocks.now top count blocks edge →
             Holds m k top blocks count edge S → result ≡ exact_count (64 * k) S }
     {
-        self.top.len() + bitvec::count_ones(self.blocks)
+        exact_count(self.top.len(), self.blocks)
     }
 
     // The limited count, by the last top entry.
@@ -202,13 +202,7 @@ impl<'a> FilterBlocks<'a> {
             Holds m k top blocks count edge S → last ≡ last_entry m (64 * k) S →
             LimitedTo m (64 * k) window S result.count result.bound }
     {
-        let low = lsb_index_lower_bound(bitvec::num_blocks(last), window);
-        let first = low.min(self.blocks.len());
-        let total = self.top.len() + bitvec::count_ones(&self.blocks[first..]);
-        Limited {
-            count: total,
-            bound: bound_of(total, m, low),
-        }
+        count_ones_from_msb_and_lsb(self.top.len(), last, self.blocks, m, window)
     }
 }
 
@@ -229,16 +223,19 @@ impl<'a> BitChunks for FilterBlocks<'a> {
 
     fn merge(&self, passed: usize, i: usize) -> Merged {
         let mut block = self.block(i);
+        // `past`, and not the length, which is the same: where no entry is left nothing then depends on it, and a block takes less time
+        let mut past = passed;
         for at in passed..self.top.len() {
             let bucket = buckets::into_usize(self.top[at]);
             if buckets::into_index(bucket) != i {
                 return Merged { block, passed: at };
             }
             block = with_bucket(block, bucket);
+            past = at + 1;
         }
         Merged {
             block,
-            passed: self.top.len(),
+            passed: past,
         }
     }
 }
@@ -299,6 +296,8 @@ impl<'a> BitChunks for RowBlocks<'a> {
     fn merge(&self, passed: usize, i: usize) -> Merged {
         let layout = self.layout;
         let mut joined = self.block(i);
+        // as the filter's
+        let mut past = passed;
         // The filter's loop again: one for both would take the entry by a closure, whose clauses are longer than the loop.
         for at in passed..layout.count {
             let bucket = row_entry(self.row, layout.width, at);
@@ -309,10 +308,11 @@ impl<'a> BitChunks for RowBlocks<'a> {
                 };
             }
             joined = with_bucket(joined, bucket);
+            past = at + 1;
         }
         Merged {
             block: joined,
-            passed: layout.count,
+            passed: past,
         }
     }
 }
@@ -368,6 +368,21 @@ pub fn next_chunk<W: BitChunks>(walk: &W, from: Cursor) -> Option<(u64, Cursor)>
     ))
 }
 
+// The next block that holds a member, and the cursor past it: of what a mask keeps, the next block in which it keeps one.
+pub fn next_masked_chunk<W: BitChunks>(walk: &W, from: Cursor) -> Option<(u64, Cursor)>
+    requires { W.sound walk.now × Ahead (W.tops walk.now) from.passed from.end }
+    ensures { NextKept (W.set walk.now) (W.tops walk.now) from.end result }
+{
+    let mut at = from;
+    loop {
+        let (block, next) = next_chunk(walk, at)?;
+        if block != 0 {
+            return Some((block, next));
+        }
+        at = next;
+    }
+}
+
 // The next block in which one of two sets may hold a member: that of the symmetric difference, that of the first set, and the
 // cursors past it.
 pub fn next_xor_chunk<V: BitChunks, W: BitChunks>(
@@ -401,7 +416,7 @@ pub fn next_xor_chunk<V: BitChunks, W: BitChunks>(
 // ---- the ones
 
 // The highest place of a block that is not 0, and what is left.
-fn take_one(block: u64, cursor: Cursor) -> (usize, Ones)
+pub fn take_one(block: u64, cursor: Cursor) -> (usize, Ones)
     requires { (0 < block) × (64 * cursor.end ≤ 2 ^ 32) }
     ensures { (S : Set) (tops : List ℕ) → Ahead tops cursor.passed cursor.end →
         Gives S tops (rest S cursor.end block) (Some result) }
@@ -419,17 +434,23 @@ pub fn next_one<W: BitChunks>(walk: &W, from: Ones) -> Option<(usize, Ones)>
     requires { W.sound walk.now × Ahead (W.tops walk.now) from.cursor.passed from.cursor.end }
     ensures { Gives (W.set walk.now) (W.tops walk.now) (rest (W.set walk.now) from.cursor.end from.block) result }
 {
-    let mut block = from.block;
-    let mut cursor = from.cursor;
-    while block == 0 {
-        let (next, c) = next_chunk(walk, cursor)?;
-        block = next;
-        cursor = c;
+    if from.block != 0 {
+        return Some(take_one(from.block, from.cursor));
     }
+    let (block, cursor) = next_masked_chunk(walk, from.cursor)?;
     Some(take_one(block, cursor))
 }
 
 // ---- the counts
+
+// The exact count of a filter with so many top entries and these blocks.
+pub fn exact_count(count: usize, blocks: &[u64]) -> usize
+    requires { (count ≤ 2 ^ 32) × (64 * length blocks.now ≤ 2 ^ 32) }
+    ensures { (m k edge : ℕ) (top all : List ℕ) (S : Set) → 0 < m → BlocksOf blocks.now all edge →
+        Holds m k top all count edge S → result ≡ exact_count (64 * k) S }
+{
+    count + bitvec::count_ones(blocks)
+}
 
 // The first block of the window under the last top entry.
 fn lsb_index_lower_bound(upper: usize, window: usize) -> usize
@@ -447,6 +468,28 @@ fn bound_of(count: usize, m: usize, low: usize) -> usize
         return 0;
     }
     64 * low
+}
+
+// The limited count of a filter with so many top entries, this last one, and these blocks.
+pub fn count_ones_from_msb_and_lsb(
+    count: usize,
+    last: usize,
+    blocks: &[u64],
+    m: usize,
+    window: usize,
+) -> Limited
+    requires { (count ≤ 2 ^ 32) × (last ≤ 2 ^ 32) × (64 * length blocks.now ≤ 2 ^ 32) }
+    ensures { (k edge : ℕ) (top all : List ℕ) (S : Set) → 0 < m → BlocksOf blocks.now all edge →
+        Holds m k top all count edge S → last ≡ last_entry m (64 * k) S →
+        LimitedTo m (64 * k) window S result.count result.bound }
+{
+    let low = lsb_index_lower_bound(bitvec::num_blocks(last), window);
+    let first = low.min(blocks.len());
+    let total = count + bitvec::count_ones(&blocks[first..]);
+    Limited {
+        count: total,
+        bound: bound_of(total, m, low),
+    }
 }
 
 // How many members of the symmetric difference are ahead of the cursors, in the blocks from `floor` up.

@@ -20,7 +20,7 @@ use Rattle.sizes.specs.declared.Refusal.{Refusal}
 use Rattle.bitvec.specs.Parts.{Room}
 use Rattle.bitvec.specs.declared.Tally.{Tally}
 use Rattle.bitchunks.specs.Walk.{Ahead, PartsOf, merged}
-use Rattle.bitchunks.proofs.Shown.{holds_walk}
+use Rattle.bitchunks.proofs.Shown.{parts_walk}
 use Rattle.judge.specs.Judging.{filter_of, judged, two_of}
 use Rattle.judge.proofs.Verdicts.{Passes, filter_told, filter_refused, filter_pass, judged_known, judged_refused, two_pass, two_alone}
 use Rattle.diff_count.specs.Making.{filters_of, record_in, tally_of}
@@ -82,7 +82,7 @@ module _ {m k : ℕ} {top bits : List ℕ} {count edge : ℕ} where
   -- a walk over them goes over the set
   pub fits_walk : {tops blocks : List ℕ} → PartsOf tops blocks top count bits edge → Fits m k top bits count edge
       → Ahead tops 0 k × Agree (64 * k) (merged tops 0 blocks) (shown top bits count edge)
-  fits_walk P F = holds_walk F.room.some F.room.small P F.holds
+  fits_walk P F = parts_walk F.room.some F.room.small P F.holds
 
 -- ---- a call on one filter
 

@@ -9,8 +9,8 @@ use lib.Dec.{ltb}
 use lib.ListN.{length, take, drop, set, length-drop, length-set}
 use lib.Seq.{take_all, drop-cons, drop-set-lt, get_or-set_same, lt-length-set}
 use borrow.Author.Tests.{lt-ltb, le-ltb}
-use Rattle.encode.specs.Pieces.{Puts}
-use Rattle.encode.proofs.Pieces.{puts_more}
+use Rattle.encode.specs.Pieces.{PutsAt}
+use Rattle.encode.proofs.Pieces.{puts_at_more}
 use Rattle.sets.specs.Text.{decimal_digits, hex_digit, to_decimal}
 
 drop_set : (l : List ℕ) (i a : ℕ) → i < length l → drop i (set l i a) ≡ a ∷ drop (suc i) l
@@ -64,10 +64,11 @@ decimal_length n = omega (arith, digits_length 20 n [])
 -- ---- the digits put
 
 -- the digits from place i on are put, once the first of them is found
-pub digits_put : {n : ℕ} {digits : List ℕ} (i : ℕ) {rest : ℕ} (d : ℕ) {before after : List ℕ} → rest ≤ 9 → d ≡ hex_digit rest → Digits n digits i rest
-    → Puts (length (take (20 - i) (drop i (set digits i d)))) (take (20 - i) (drop i (set digits i d))) before after
-    → Puts 20 (to_decimal n) before after
-digits_put {n} {digits} i {rest} d {before} {after} h e t p =
+pub digits_put : {n : ℕ} {digits : List ℕ} (i : ℕ) {rest : ℕ} (d : ℕ) {out : List ℕ} {at : ℕ} {out' : List ℕ} {r : ℕ}
+    → rest ≤ 9 → d ≡ hex_digit rest → Digits n digits i rest
+    → PutsAt (length (take (20 - i) (drop i (set digits i d)))) (take (20 - i) (drop i (set digits i d))) out at out' r
+    → PutsAt 20 (to_decimal n) out at out' r
+digits_put {n} {digits} i {rest} d {out} {at} {out'} {r} h e t p =
     let l : i < length digits = omega arith in
     let s : rest < 10 = omega arith in
     let all : take (20 - i) (drop i (set digits i d)) ≡ to_decimal n =
@@ -75,4 +76,4 @@ digits_put {n} {digits} i {rest} d {before} {after} h e t p =
     ∙ drop_set digits i d l
     ∙ ap (λ (x : ℕ). x ∷ drop (suc i) digits) (e ∙ low_digit rest s)
     ∙ sym (rw (lt-ltb rest 10 s) at t.are) in
-    puts_more (decimal_length n) (subst (λ (bs : List ℕ). Puts (length bs) bs before after) all p)
+    puts_at_more (decimal_length n) (subst (λ (bs : List ℕ). PutsAt (length bs) bs out at out' r) all p)

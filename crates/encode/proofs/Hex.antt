@@ -7,8 +7,8 @@ use mathlib.Core.List.{List, [], ◌∷◌, ◌++◌}
 use Rattle.std.proofs.lemmas.List.{take_more}
 use lib.ListN.{get_or, take}
 use lib.Pow.{pow-add}
-use Rattle.encode.specs.Pieces.{Puts}
-use Rattle.encode.proofs.Pieces.{puts_then}
+use Rattle.encode.specs.Pieces.{PutsAt}
+use Rattle.encode.proofs.Pieces.{puts_at_then}
 use Rattle.sets.specs.Text.{hex_digit, to_hex}
 
 four_bits : (k : ℕ) → 2 ^ (4 * k) ≡ 16 ^ k
@@ -31,13 +31,15 @@ digit_shifted n i h e =
     let p : 2 ^ (60 - 4 * i) ≡ 16 ^ (15 - i) = ap (λ (x : ℕ). 2 ^ x) s ∙ four_bits (15 - i) in
     e ∙ ap (λ (x : ℕ). hex_digit (n / x % 16)) p ∙ sym (digit_at 16 n i (15 - i) (omega arith))
 
--- the digits up to place i are put, and one more
-pub hex_turn : (n i : ℕ) {d : ℕ} {before now after : List ℕ} → i < 16 → d ≡ hex_digit (n / 2 ^ (60 - 4 * i) % 16)
-    → Puts i (take i (to_hex 16 n)) before now → Puts 1 (d ∷ []) now after → Puts (i + 1) (take (i + 1) (to_hex 16 n)) before after
-hex_turn n i {d} {before} {now} {after} h e t p =
-    let longer : take i (to_hex 16 n) ++ d ∷ [] ≡ take (i + 1) (to_hex 16 n) =
-    ap (λ (x : ℕ). take i (to_hex 16 n) ++ x ∷ []) (digit_shifted n i h e) ∙ sym (take_more (to_hex 16 n) i 0 h) in
-    subst (λ (bs : List ℕ). Puts (i + 1) bs before after) longer (puts_then t p)
+module _ (n i : ℕ) {out : List ℕ} {at : ℕ} {out₁ : List ℕ} {r₁ : ℕ} where
+  -- the digits up to place i are put, and one more
+  pub hex_turn : {d : ℕ} {out₂ : List ℕ} {r₂ : ℕ} → i < 16 → d ≡ hex_digit (n / 2 ^ (60 - 4 * i) % 16)
+      → PutsAt i (take i (to_hex 16 n)) out at out₁ r₁ → PutsAt 1 (d ∷ []) out₁ r₁ out₂ r₂
+      → PutsAt (i + 1) (take (i + 1) (to_hex 16 n)) out at out₂ r₂
+  hex_turn {d} {out₂} {r₂} h e t p =
+      let longer : take i (to_hex 16 n) ++ d ∷ [] ≡ take (i + 1) (to_hex 16 n) =
+      ap (λ (x : ℕ). take i (to_hex 16 n) ++ x ∷ []) (digit_shifted n i h e) ∙ sym (take_more (to_hex 16 n) i 0 h) in
+      subst (λ (bs : List ℕ). PutsAt (i + 1) bs out at out₂ r₂) longer (puts_at_then t p)
 
-pub hex_end : (n i : ℕ) {before now : List ℕ} → i ≡ 16 → Puts i (take i (to_hex 16 n)) before now → Puts 16 (to_hex 16 n) before now
-hex_end n i {before} {now} e t = subst (λ (k : ℕ). Puts k (take k (to_hex 16 n)) before now) e t
+  pub hex_end : i ≡ 16 → PutsAt i (take i (to_hex 16 n)) out at out₁ r₁ → PutsAt 16 (to_hex 16 n) out at out₁ r₁
+  hex_end e t = subst (λ (k : ℕ). PutsAt k (take k (to_hex 16 n)) out at out₁ r₁) e t

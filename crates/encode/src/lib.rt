@@ -3,7 +3,7 @@
 
 ghost use Rattle.std.specs.Prelude.{[], ◌∷◌, ◌++◌, List, ℕ, map, take, ◌≡◌, ◌+◌, ◌*◌, ◌<◌, ◌≤◌, ◌^◌, length};
 ghost use Rattle.sets.specs.Text.{fields, hex_digit, space, to_decimal, to_hex};
-ghost use Rattle.encode.specs.Pieces.{Puts};
+ghost use Rattle.encode.specs.Pieces.{Puts, PutsAt};
 
 use std::marker::Model;
 
@@ -42,29 +42,15 @@ impl<const N: usize> Text<N> {
         requires { length self.old + length piece.now ≤ N }
         ensures { Puts (length piece.now) piece.now self.old self.new }
     {
-        let end = self.len + piece.len();
-        let bytes = &mut self.bytes[..];
-        bytes[self.len..end].copy_from_slice(piece);
-        self.len = end;
+        self.len = put(&mut self.bytes, self.len, piece);
     }
 
-    // A space and a number in decimal; not by `write!`, whose error here and in `put_hex` would have to be shown not to come.
+    // A space and a number in decimal.
     pub fn put_decimal(&mut self, n: u64)
         requires { length self.old + 21 ≤ N }
         ensures { Puts 21 (space ∷ to_decimal n) self.old self.new }
     {
-        // from the last digit on: how many there are shows at the first
-        let mut digits = [0u8; 20];
-        let mut i = 19;
-        let mut rest = n;
-        while 9 < rest {
-            digits[i] = hex_digit(rest % 10);
-            rest /= 10;
-            i -= 1;
-        }
-        digits[i] = hex_digit(rest);
-        self.put(b" ");
-        self.put(&digits[i..]);
+        self.len = put_decimal(&mut self.bytes, self.len, n);
     }
 
     // A space and a number in 16 hexadecimal digits.
@@ -72,10 +58,7 @@ impl<const N: usize> Text<N> {
         requires { length self.old + 17 ≤ N }
         ensures { Puts 17 (space ∷ to_hex 16 n) self.old self.new }
     {
-        self.put(b" ");
-        for i in 0..16u32 {
-            self.put(&[hex_digit((n >> (60 - 4 * i)) % 16)]);
-        }
+        self.len = put_hex(&mut self.bytes, self.len, n);
     }
 
     // A line: its word, numbers with a space before each, and a newline.
@@ -85,12 +68,62 @@ impl<const N: usize> Text<N> {
             (word.now ++ fields (map to_decimal numbers.now))
             self.old self.new }
     {
-        self.put(word);
-        for &n in numbers {
-            self.put_decimal(n);
-        }
-        self.put(b"\n");
+        self.len = put_line(&mut self.bytes, self.len, word, numbers);
     }
+}
+
+// ---- the same pieces put into any buffer from a place on; the answer is where the next one begins
+
+pub fn put(out: &mut [u8], at: usize, bytes: &[u8]) -> usize
+    requires { at + length bytes.now ≤ length out.old }
+    ensures { PutsAt (length bytes.now) bytes.now out.old at out.new result }
+{
+    let end = at + bytes.len();
+    out[at..end].copy_from_slice(bytes);
+    end
+}
+
+// Not by `write!`, whose error here and in `put_hex` would have to be shown not to come.
+pub fn put_decimal(out: &mut [u8], at: usize, n: u64) -> usize
+    requires { at + 21 ≤ length out.old }
+    ensures { PutsAt 21 (space ∷ to_decimal n) out.old at out.new result }
+{
+    // from the last digit on: how many there are shows at the first
+    let mut digits = [0u8; 20];
+    let mut i = 19;
+    let mut rest = n;
+    while 9 < rest {
+        digits[i] = hex_digit(rest % 10);
+        rest /= 10;
+        i -= 1;
+    }
+    digits[i] = hex_digit(rest);
+    let first = put(out, at, b" ");
+    put(out, first, &digits[i..])
+}
+
+pub fn put_hex(out: &mut [u8], at: usize, n: u64) -> usize
+    requires { at + 17 ≤ length out.old }
+    ensures { PutsAt 17 (space ∷ to_hex 16 n) out.old at out.new result }
+{
+    let mut end = put(out, at, b" ");
+    for i in 0..16u32 {
+        end = put(out, end, &[hex_digit((n >> (60 - 4 * i)) % 16)]);
+    }
+    end
+}
+
+pub fn put_line(out: &mut [u8], at: usize, word: &[u8], numbers: &[u64]) -> usize
+    requires { at + length word.now + 21 * length numbers.now + 1 ≤ length out.old }
+    ensures { PutsAt (length word.now + 21 * length numbers.now + 1)
+        (word.now ++ fields (map to_decimal numbers.now))
+        out.old at out.new result }
+{
+    let mut end = put(out, at, word);
+    for &n in numbers {
+        end = put_decimal(out, end, n);
+    }
+    put(out, end, b"\n")
 }
 
 fn hex_digit(n: u64) -> u8

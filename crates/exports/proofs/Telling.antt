@@ -1,5 +1,5 @@
 -- Which row is named, and where a reader's place goes. Assumes nothing.
-use mathlib.Core.Path.{◌≡◌, refl}
+use mathlib.Core.Path.{◌≡◌, refl, sym, ap, ◌∙◌}
 use mathlib.Core.Bool.{Bool, true, false, cond}
 use mathlib.Core.List.{List, [], ◌∷◌}
 use Prim.Native.Nat.{ℕ, suc}
@@ -35,7 +35,7 @@ named n mask size first second = go (rows_verdict n mask size first.now second.n
     go taken Greater = refl
     go (refused r) o = refl
 
--- where no bucket is given the place stays, so a reader's place may be written after every step
+-- the place after a step is that of the reader that is left, since it stays where no bucket is given
 pub place_kept : (reader row : List ℕ) → length reader ≡ 2
     → let n = get_or reader 0 0 in let place = get_or reader 1 0 in
     (n ∷ step_place n row place ∷ []) ≡ reader_after reader (step_answer n row place) (step_place n row place)
@@ -57,3 +57,12 @@ place_kept (n ∷ place ∷ []) row e = go _
         (answer v (λ r. place) (cond (ltb place (length (buckets_of n row))) (suc place) place))
     go taken = at (buckets_of n row) _ refl
     go (refused k) = refl
+
+-- so a reader whose place stays is left as it is
+pub place_held : (reader row : List ℕ) → length reader ≡ 2
+    → let n = get_or reader 0 0 in let place = get_or reader 1 0 in
+    step_place n row place ≡ place → reader ≡ reader_after reader (step_answer n row place) (step_place n row place)
+place_held [] row e h = absurd (omega (arith, e))
+place_held (n ∷ []) row e h = absurd (omega (arith, e))
+place_held (n ∷ place ∷ x ∷ xs) row e h = absurd (omega (arith, e))
+place_held (n ∷ place ∷ []) row e h = ap (λ (p : ℕ). n ∷ p ∷ []) (sym h) ∙ place_kept (n ∷ place ∷ []) row e

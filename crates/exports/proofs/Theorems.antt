@@ -1,13 +1,13 @@
 -- Two outcomes of an exported call coincide, of a push their sets do; a refusal is told by 01's number, and 0 exactly where a call
 -- was taken; and the reader from C is the row reader. Assumes nothing.
 use mathlib.Core.Path.{◌≡◌, refl, sym, ap, ◌∙◌}
-use mathlib.Core.List.{List, [], ◌∷◌}
+use mathlib.Core.List.{List, [], ◌∷◌, ◌++◌}
 use Prim.Native.Nat.{ℕ}
 use denote.Ref.{Bor}
 use native.Mathlib.Omega.{arith}
 use Rattle.sets.specs.Sets.{Set}
 use Rattle.sets.specs.Configurations.{Config}
-use Rattle.sets.specs.Refusals.{Cause, Test, Verdict, taken, refused, answer, verdict}
+use Rattle.sets.specs.Refusals.{Cause, Test, Verdict, taken, refused, answer, verdict, are_buckets, builder_lent}
 use Rattle.sets.proofs.Verdicts.{never_zero}
 use Rattle.sizes.specs.Sizes.{refusal}
 use Rattle.sizes.specs.declared.Refusal.{Refusal}
@@ -15,7 +15,7 @@ use Rattle.sizes.proofs.Numbers.{refusal_numbered}
 use Rattle.diff_count.specs.Making.{Makes}
 use Rattle.diff_count.specs.declared.Filter.{Filter}
 use Rattle.diff_count.proofs.Theorems.{makes_once}
-use Rattle.builder.specs.Calls.{News, Pushes, push_verdict}
+use Rattle.builder.specs.Calls.{News, PushOutcome, Pushes, config_of, push_verdict, record_in}
 use Rattle.builder.specs.declared.Builder.{Builder}
 use Rattle.builder.proofs.Once.{Alike, new_once, push_once}
 use Rattle.rows.specs.Calls.{Writes}
@@ -99,14 +99,45 @@ pub refusal_told : {A C : Type 0} (cells : A → C) (a : Result A Refusal) (ts :
 refusal_told cells a ts e =
     ap (λ (v : Verdict). told cells (answer v (λ r. Err (refusal r)) a)) e ∙ ap refuses (refusal_numbered ts e)
 
--- and 0 is told only where the call was taken
-pub zero_taken : {A C : Type 0} (cells : A → C) (a : Result A Refusal) (ts : List Test)
-    → number_of (told cells (answer (verdict ts) (λ r. Err (refusal r)) a)) ≡ 0 → verdict ts ≡ taken
-zero_taken cells a ts z = go (verdict ts) refl
+-- however answers are told: where each refusal of the verdict is told so, 0 is told only where the call was taken
+pub zero_taken : {A C : Type 0} (told : A → Told C) (refuse : Cause → A) (a : A) (ts : List Test)
+    → ((k : Cause) → verdict ts ≡ refused k → told (refuse k) ≡ refuses k.number)
+    → number_of (told (answer (verdict ts) refuse a)) ≡ 0 → verdict ts ≡ taken
+zero_taken told refuse a ts h z = go (verdict ts) refl z
   where
-    go : (v : Verdict) → verdict ts ≡ v → verdict ts ≡ taken
-    go taken e = e
-    go (refused k) e = let m : k.number ≡ 0 = sym (ap number_of (refusal_told cells a ts e)) ∙ z in absurd (omega (arith, never_zero ts k e))
+    go : (v : Verdict) → verdict ts ≡ v → number_of (told (answer v refuse a)) ≡ 0 → verdict ts ≡ taken
+    go taken e q = e
+    go (refused k) e q = let m : k.number ≡ 0 = sym (ap number_of (h k e)) ∙ q in absurd (omega (arith, never_zero ts k e))
+
+-- as each of these calls tells it
+pub told_zero : {A C : Type 0} (cells : A → C) (a : Result A Refusal) (ts : List Test)
+    → number_of (told cells (answer (verdict ts) (λ r. Err (refusal r)) a)) ≡ 0 → verdict ts ≡ taken
+told_zero cells a ts = zero_taken (told cells) (λ r. Err (refusal r)) a ts (λ k e. ap refuses (refusal_numbered ts e))
+
+-- a push, of which 01 leaves more open where it is taken, answers by its verdict too
+module _ (b : Builder) (pending bits list p q : List ℕ) where
+  abbrev tests : List Test
+  tests = builder_lent (record_in b) pending bits ++ (are_buckets (config_of b) list ∷ [])
+
+  by_verdict : (v : Verdict) {a : Result Builder Refusal} → PushOutcome v b pending bits list a p q
+      → a ≡ answer v (λ k. Err (refusal k)) a
+  by_verdict taken o = refl
+  by_verdict (refused k) o = o.0
+
+  module _ {cells : List ℕ} {r : ℕ} {x : List ℕ} (w : MakesBuilder (λ a. Pushes b pending bits list a p q) cells r x) where
+    telling : told builder_cells w.answer ≡ told builder_cells (answer (verdict tests) (λ k. Err (refusal k)) w.answer)
+    unfolding push_verdict
+    telling = ap (told builder_cells) (by_verdict (verdict tests) w.keeps)
+
+    pub push_told : {k : Cause} → push_verdict b pending bits list ≡ refused k → (r ≡ k.number) × (x ≡ cells)
+    unfolding push_verdict
+    push_told e =
+        let t = telling ∙ refusal_told builder_cells w.answer tests e in
+        (w.tells.number ∙ ap number_of t, w.tells.values ∙ ap (λ (y : Told (List ℕ)). cells_after y cells) t)
+
+    pub push_zero : r ≡ 0 → push_verdict b pending bits list ≡ taken
+    unfolding push_verdict
+    push_zero z = told_zero builder_cells w.answer tests (ap number_of (sym telling) ∙ sym w.tells.number ∙ z)
 
 -- ---- the reader: its cells, beside the row that it holds
 

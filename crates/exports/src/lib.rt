@@ -530,6 +530,10 @@ pub extern "C" fn zamgulekt_row_reader_step(
 {
     let [config, place] = *reader;
     let next = row_reader::step_at(row, config, place as usize);
+    // the place moves where a bucket is given, and else no cell of the reader is written
+    if next.place == place as usize {
+        return put(step, next.answer);
+    }
     *reader = [config, next.place as u64];
     put(step, next.answer)
 }

@@ -74,6 +74,19 @@ module _ (f : Filter) (top bits : List ℕ) (t : verdict (filter_lent (record_in
 
 -- ---- where the order would be answered
 
+-- no call is refused, and each answers the figure
+pub record Answered (f : Filter) (top bits : List ℕ) (g : Filter) (top2 bits2 : List ℕ) (mask size : ℕ) (a b : Single)
+    (d : Pair) : Type 0 where
+  pub ones : exact_of f top bits ≡ Ok a.ones
+  pub limited : limited_of f top bits ≡ Ok a.limited
+  pub key : key_for f top bits mask size ≡ Ok a.key
+  pub ones2 : exact_of g top2 bits2 ≡ Ok b.ones
+  pub limited2 : limited_of g top2 bits2 ≡ Ok b.limited
+  pub key2 : key_for g top2 bits2 mask size ≡ Ok b.key
+  pub difference : exact_difference_of f top bits g top2 bits2 ≡ Ok d.difference
+  pub limited_difference : limited_difference_of f top bits g top2 bits2 ≡ Ok d.limited
+  pub order : cmp_of f top bits g top2 bits2 mask size ≡ Ok d.order
+
 module _ (f : Filter) (top bits : List ℕ) (g : Filter) (top2 bits2 : List ℕ) (mask size : ℕ)
     (v : cmp_verdict f top bits g top2 bits2 mask size ≡ taken) where
   abbrev line : Config
@@ -136,8 +149,27 @@ module _ (f : Filter) (top bits : List ℕ) (g : Filter) (top2 bits2 : List ℕ)
           omega (arith, i, j, k, apart_length S T (W line)),
         )
 
+    -- what the calls answered: no refusal
+    answered : Answered f top bits g top2 bits2 mask size a b d
+    answered =
+        let first = sym x in
+        let second = sym (y) in
+        let between = sym (z) in
+        record {
+          ones = exact_answered f top bits first_passed ∙ (λ i. Ok (first i).ones);
+          limited = limited_answered f top bits first_passed ∙ (λ i. Ok (first i).limited);
+          key = key_answered f top bits first_passed mask size mask_passed ∙ (λ i. Ok (first i).key);
+          ones2 = exact_answered g top2 bits2 second_passed ∙ (λ i. Ok (second i).ones);
+          limited2 = limited_answered g top2 bits2 second_passed ∙ (λ i. Ok (second i).limited);
+          key2 = key_answered g top2 bits2 second_passed mask size mask_passed ∙ (λ i. Ok (second i).key);
+          difference = difference_answered ∙ (λ i. Ok (between i).difference);
+          limited_difference = limited_difference_answered ∙ (λ i. Ok (between i).limited);
+          order = order_answered ∙ (λ i. Ok (between i).order);
+        }
+
     pub figures_are_lem : (o : ℕ) → o ≡ overlap a.ones b.ones d.difference
-        → record { config = f.config; first = a; second = b; between = d; overlap = o } ≡ figures_of line mask size S T
+        → Answered f top bits g top2 bits2 mask size a b d
+        × (record { config = f.config; first = a; second = b; between = d; overlap = o } ≡ figures_of line mask size S T)
     unfolding figures_of
     figures_are_lem o r =
         let config = sym (number_at f.config all_passed.1.known) in
@@ -145,5 +177,7 @@ module _ (f : Filter) (top bits : List ℕ) (g : Filter) (top2 bits2 : List ℕ)
         let second = y ∙ second_is in
         let between = z in
         let common : o ≡ overlap (exact_count_at line S) (exact_count_at line T) (exact_count_at line (apart S T)) =
-        r ∙ (λ i. overlap (first i).ones (second i).ones (between i).difference) in
-        λ i. record { config = config i; first = first i; second = second i; between = between i; overlap = common i }
+        r ∙ (λ i. overlap (first i).ones (second i).ones (between i).difference) in (
+          answered,
+          λ i. record { config = config i; first = first i; second = second i; between = between i; overlap = common i },
+        )

@@ -26,7 +26,7 @@ use Rattle.sizes.specs.declared.Refusal.{Refusal}
 use Rattle.sizes.proofs.Laws.{known_of, unknown_of}
 use Rattle.bitchunks.specs.Rows.{RowWalks, blocks, layout_of, row_set}
 use Rattle.bitchunks.specs.declared.Layout.{Layout}
-use Rattle.bitchunks.proofs.Shown.{row_walk, row_walks}
+use Rattle.bitchunks.proofs.Shown.{layout_walk, row_walks}
 use Rattle.judge_row.specs.Judging.{fault_of, fault_verdict, found, row_answer, row_verdict, row_of}
 use Rattle.judge_row.specs.declared.RowFault.{RowFault}
 use Rattle.judge_row.specs.declared.RowFault.TheVariants as faults
@@ -150,7 +150,7 @@ module _ (n : ℕ) (bs : List ℕ) where
         row_walks (config_at n) bs k (entry_width n) w (line_at n).small row_short (row_facts t).0
 
     row_shows : (p : ℕ) → row_set (layout_of (config_at n) bs) bs p ≡ shown_row (config_at n) bs p
-    row_shows = row_walk (config_at n) bs (entry_width n) (row_facts t).0
+    row_shows = layout_walk (config_at n) bs (entry_width n) (row_facts t).0
 
     row_members : members (shown_row (config_at n) bs) (W (config_at n))
         ≡ row_entries (config_at n) bs ++ members (held (row_blocks (config_at n) bs)) (64 * row_block_count (config_at n) bs)

@@ -39,7 +39,7 @@ fn deciding_block<V: BitChunks, W: BitChunks>(
 }
 
 // The order that a deciding block tells: of what the mask keeps there, the part with the highest bucket is the larger number.
-fn order_by(found: Option<(u64, u64)>) -> Ordering
+pub fn order_by(found: Option<(u64, u64)>) -> Ordering
     ensures { result ≡ decided found }
 {
     match found {

@@ -42,9 +42,14 @@ fn an_old_record_no_longer_fits() -> Result<bool, Refusal> {
     let mut top = [0u32; 12];
     let mut blocks = [0u64; 130];
     let old = filter_of(&mut top, &mut blocks, &[8319])?;
+    let refused = old.toggle(&mut top, &mut blocks, &[5, 8320]);
     let made = old.toggle(&mut top, &mut blocks, &[5]);
     let again = old.toggle(&mut top, &mut blocks, &[6]);
-    Ok(is_filter(made, 2, 0) && matches!(again, Err(Refusal::Soundness)))
+    Ok(
+        matches!(refused, Err(Refusal::Range))
+            && is_filter(made, 2, 0)
+            && matches!(again, Err(Refusal::Soundness)),
+    )
 }
 
 fn the_thirteenth_goes_to_the_blocks() -> Result<bool, Refusal> {
@@ -66,8 +71,8 @@ fn the_thirteenth_goes_to_the_blocks() -> Result<bool, Refusal> {
 fn in_exactly_one_of_two() -> Result<bool, Refusal> {
     let mut top = [0u32; 12];
     let mut blocks = [0u64; 130];
-    let mut top2 = [0u32; 12];
-    let mut blocks2 = [0u64; 130];
+    let mut top2 = [0u32; 64];
+    let mut blocks2 = [0u64; 1040];
     let mut to_top = [0u32; 12];
     let mut to_blocks = [0u64; 130];
     let a = filter_of(&mut top, &mut blocks, &[5, 7])?;
@@ -92,6 +97,8 @@ fn two_configurations() -> Result<bool, Refusal> {
     let mut top2 = [0u32; 64];
     let mut blocks2 = [0u64; 1040];
     let a = filter_of(&mut top, &mut blocks, &[5, 7])?;
+    filter_of(&mut top2, &mut blocks2, &[7, 9])?;
+    // over what the areas held
     let b = diff_count::empty(10, &mut top2, &mut blocks2)?;
     let counted = counts::exact_difference(a, &top, &blocks, b, &top2, &blocks2);
     Ok(counted == Err(Refusal::Likeness))

@@ -25,7 +25,8 @@ const LONGEST_ROW: usize = 68049;
 
 // ---- a set
 
-// A filter with areas of its own, which have room in each configuration.
+// A filter with areas of its own, which have room in each configuration. It is filled in place and lent: by value, its 68 KB would
+// be copied. A function begins with its sets and buffers, since what comes behind a `?` is zeroed twice.
 #[derive(PartialEq, Drop)]
 struct Set {
     f: Filter,
@@ -34,32 +35,17 @@ struct Set {
 }
 
 impl Set {
-    // What a call makes in new areas.
-    fn made<F: FnOnce(&mut [u32], &mut [u64]) -> Result<Filter, Refusal>>(
-        make: F,
-    ) -> Result<Set, Refusal>
-        requires { F.IsAlwaysCallable make }
-    {
-        let mut top = [0; 384];
-        let mut blocks = [0; 8320];
-        let f = make(&mut top, &mut blocks)?;
-        Ok(Set { f, top, blocks })
-    }
-
-    // The buckets that exactly one of two sets holds.
-    fn difference(&self, other: &Set) -> Result<Set, Refusal> {
-        Set::made(|top, blocks| {
-            diff_count::symmetric_difference(
-                self.f,
-                &self.top,
-                &self.blocks,
-                other.f,
-                &other.top,
-                &other.blocks,
-                top,
-                blocks,
-            )
-        })
+    // Areas, and the record of no filter yet.
+    fn new() -> Set {
+        Set {
+            f: Filter {
+                config: 0,
+                count: 0,
+                boundary: 0,
+            },
+            top: [0; 384],
+            blocks: [0; 8320],
+        }
     }
 
     fn toggle(&mut self, list: &[u32]) -> Result<(), Refusal> {
@@ -73,12 +59,32 @@ impl Set {
         to.get(..n).ok_or(Refusal::Room)
     }
 
-    // Whether that is the set's row: it is what we write, and reading it gives the filter.
-    fn has_row(&self, row: &[u8]) -> Result<bool, Refusal> {
+    // Whether that is what we write as the set's row.
+    fn writes(&self, row: &[u8]) -> Result<bool, Refusal> {
         let mut to = [0; LONGEST_ROW];
-        let written = self.write(&mut to)?;
-        let read = Set::made(|top, blocks| rows::read(self.f.config, row, top, blocks))?;
-        Ok(written == row && read == *self)
+        Ok(self.write(&mut to)? == row)
+    }
+
+    // Whether reading that row gives the set.
+    fn reads(&self, row: &[u8]) -> Result<bool, Refusal> {
+        let mut read = Set::new();
+        read.f = rows::read(self.f.config, row, &mut read.top, &mut read.blocks)?;
+        Ok(read == *self)
+    }
+
+    // How many buckets its row has.
+    fn count_in_row(&self) -> Result<usize, Refusal> {
+        let mut row = [0; LONGEST_ROW];
+        rows::open(self.f.config, self.write(&mut row)?)
+    }
+
+    // The order of two sets' rows.
+    fn cmp_rows(&self, other: &Set, mask: u64, size: usize) -> Result<Ordering, Refusal> {
+        let mut first = [0; LONGEST_ROW];
+        let mut second = [0; LONGEST_ROW];
+        let first = self.write(&mut first)?;
+        let second = other.write(&mut second)?;
+        row_order::cmp_rows(self.f.config, mask, size, first, second)
     }
 }
 
@@ -163,17 +169,33 @@ impl<'a> Fields<'a> {
         set.toggle(self.buckets(&mut list)?)
     }
 
-    // The set of the buckets that are listed.
-    fn set(&mut self, config: u64) -> Result<Set, Refusal> {
-        let mut set = Set::made(|top, blocks| diff_count::empty(config, top, blocks))?;
-        self.toggle(&mut set)?;
-        Ok(set)
+    // Fills the areas with the set of the buckets that are listed.
+    fn set(&mut self, config: u64, set: &mut Set) -> Result<(), Refusal> {
+        set.f = diff_count::empty(config, &mut set.top, &mut set.blocks)?;
+        self.toggle(set)
     }
 
     // Whether a set's row is next.
     fn has_row_of(&mut self, set: &Set) -> Result<bool, Refusal> {
         let mut row = [0; LONGEST_ROW];
-        set.has_row(self.row(&mut row)?)
+        let row = self.row(&mut row)?;
+        Ok(set.writes(row)? && set.reads(row)?)
+    }
+
+    // Whether the row of the buckets that exactly one of two sets holds is next.
+    fn has_row_of_difference(&mut self, a: &Set, b: &Set) -> Result<bool, Refusal> {
+        let mut difference = Set::new();
+        difference.f = diff_count::symmetric_difference(
+            a.f,
+            &a.top,
+            &a.blocks,
+            b.f,
+            &b.top,
+            &b.blocks,
+            &mut difference.top,
+            &mut difference.blocks,
+        )?;
+        self.has_row_of(&difference)
     }
 
     // Whether these counts are next.
@@ -189,69 +211,71 @@ impl<'a> Fields<'a> {
 // ---- whether our calls answer a line's fields, from behind the configuration
 
 fn row_line(fields: &mut Fields<'_>, config: u64) -> Result<bool, Refusal> {
-    let a = fields.set(config)?;
+    let mut a = Set::new();
+    fields.set(config, &mut a)?;
     fields.has_row_of(&a)
 }
 
 fn toggle_line(fields: &mut Fields<'_>, config: u64) -> Result<bool, Refusal> {
-    let mut a = fields.set(config)?;
+    let mut a = Set::new();
+    fields.set(config, &mut a)?;
     fields.toggle(&mut a)?;
     fields.has_row_of(&a)
 }
 
 fn difference_line(fields: &mut Fields<'_>, config: u64) -> Result<bool, Refusal> {
-    let a = fields.set(config)?;
-    let b = fields.set(config)?;
+    let mut a = Set::new();
+    let mut b = Set::new();
+    fields.set(config, &mut a)?;
+    fields.set(config, &mut b)?;
     let exact = counts::exact_difference(a.f, &a.top, &a.blocks, b.f, &b.top, &b.blocks)?;
     let limited = counts::limited_difference(a.f, &a.top, &a.blocks, b.f, &b.top, &b.blocks)?;
-    let difference = a.difference(&b)?;
-    Ok(fields.has_row_of(&difference)? && fields.has_counts(exact, limited)?)
+    Ok(fields.has_row_of_difference(&a, &b)? && fields.has_counts(exact, limited)?)
 }
 
 // Whether two sets have the order that is told, and so their rows.
 fn order_line(fields: &mut Fields<'_>, config: u64) -> Result<bool, Refusal> {
+    let mut a = Set::new();
+    let mut b = Set::new();
     let mask = fields.number()?;
     let size = fields.number()? as usize;
-    let a = fields.set(config)?;
-    let b = fields.set(config)?;
-    let mut first = [0; LONGEST_ROW];
-    let mut second = [0; LONGEST_ROW];
-    let first = a.write(&mut first)?;
-    let second = b.write(&mut second)?;
+    fields.set(config, &mut a)?;
+    fields.set(config, &mut b)?;
     let order = masked::cmp_masked(a.f, &a.top, &a.blocks, b.f, &b.top, &b.blocks, mask, size)?;
-    let of_rows = row_order::cmp_rows(config, mask, size, first, second)?;
+    let of_rows = a.cmp_rows(&b, mask, size)?;
     let told = fields.order()?;
     Ok(order == told && of_rows == told)
 }
 
 fn key_line(fields: &mut Fields<'_>, config: u64) -> Result<bool, Refusal> {
+    let mut a = Set::new();
     let mask = fields.number()?;
     let size = fields.number()? as usize;
-    let a = fields.set(config)?;
+    fields.set(config, &mut a)?;
     let key = masked::masked_sort_key(a.f, &a.top, &a.blocks, mask, size)?;
     Ok(fields.number()? == key)
 }
 
 // Whether a set has the counts that are told, and its row as many buckets.
 fn count_line(fields: &mut Fields<'_>, config: u64) -> Result<bool, Refusal> {
-    let a = fields.set(config)?;
+    let mut a = Set::new();
+    fields.set(config, &mut a)?;
     let exact = counts::exact_count(a.f, &a.top, &a.blocks)?;
     let limited = counts::limited_count(a.f, &a.top, &a.blocks)?;
-    let mut row = [0; LONGEST_ROW];
-    let opened = rows::open(config, a.write(&mut row)?)?;
-    Ok(opened == exact && fields.has_counts(exact, limited)?)
+    Ok(fields.has_counts(exact, limited)? && a.count_in_row()? == exact)
 }
 
 fn build_line(fields: &mut Fields<'_>, config: u64) -> Result<bool, Refusal> {
     let mut pending = [0; 768];
     let mut bits = [0; 8320];
     let mut list = [0; MOST_BUCKETS];
+    let mut set = Set::new();
     let split = fields.number()? as usize;
     let b = builder::new(config, split, &mut pending, &mut bits)?;
     let b = b.push(&mut pending, &mut bits, fields.buckets(&mut list)?)?;
     let b = b.raise(&pending, &bits, fields.number()? as usize)?;
     let b = b.push(&mut pending, &mut bits, fields.buckets(&mut list)?)?;
-    let set = Set::made(|top, blocks| b.finish(&pending, &bits, top, blocks))?;
+    set.f = b.finish(&pending, &bits, &mut set.top, &mut set.blocks)?;
     fields.has_row_of(&set)
 }
 

@@ -19,7 +19,7 @@ overlap-requires c =
 pub returns : goal.returns
 returns c =
     let a = c.args in
-    figures_are_lem a.f a.top.now a.blocks.now a.g a.top2.now a.blocks2.now a.mask a.size c.requires
+    (figures_are_lem a.f a.top.now a.blocks.now a.g a.top2.now a.blocks2.now a.mask a.size c.requires
     c.single_for-first.result c.single_for-second.result c.pair_for-between.result
     c.single_for-first.ensures c.single_for-second.ensures c.pair_for-between.ensures
-    c.overlap.result c.overlap.ensures
+    c.overlap.result c.overlap.ensures).1

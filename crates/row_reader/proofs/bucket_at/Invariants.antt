@@ -6,8 +6,8 @@ use Rattle.bitchunks.specs.Rows.{entries, row_set}
 use Rattle.row_reader.proofs.Steps.{Reaching}
 use Rattle.row_reader.proofs.bucket_at.Given as goal
 
-abbrev pub invariant-loop : goal.invariant-loop
-invariant-loop l =
+abbrev pub invariant-loop-passed : goal.invariant-loop-passed
+invariant-loop-passed l =
     let S = row_set l.row.layout l.row.row.now in
-    (l.counter ≤ l.place)
-    × Reaching S (entries l.row.layout l.row.row.now) (members S (64 * l.k)) l.place (l.place - l.counter) l.at.cursor.passed l.at.cursor.end l.at.block
+    (l.passed ≤ l.place)
+    × Reaching S (entries l.row.layout l.row.row.now) (members S (64 * l.k)) l.place (l.place - l.passed) l.at.cursor.passed l.at.cursor.end l.at.block

@@ -1,19 +1,10 @@
--- `FilterBlocks::count_ones_from_msb_and_lsb` meets its contract: the blocks from the window's first one hold what the limited count
--- adds.
-use mathlib.Core.Path.{ap, ◌∙◌}
-use Prim.Native.Nat.{ℕ, ◌-◌}
-use native.Mathlib.Omega.{arith}
-use Rattle.bitvec.proofs.Counting.{part_count}
-use Rattle.bitchunks.proofs.Counts.{members_few, filter_limited}
+-- `FilterBlocks::count_ones_from_msb_and_lsb` meets its contract: that of the top entries' number and the blocks.
+use mathlib.Core.Path.{sym, subst}
+use Prim.Native.Nat.{ℕ}
+use Rattle.sets.specs.Filter.{Holds}
 use Rattle.bitchunks.proofs.FilterBlocks.count_ones_from_msb_and_lsb.Goals as goal
-
-pub overflow_add-total : goal.overflow_add-total
-overflow_add-total c = omega (arith, members_few _ _ _ c.count_ones.ensures)
 
 pub returns : goal.returns
 returns c k count edge top blocks S z P H el =
-    filter_limited z P H _ _ _ _ _ _ el
-    (c.lsb_index_lower_bound-low.ensures
-    ∙ ap (λ (x : ℕ). x - c.args.window) c.num_blocks.ensures)
-    c.min-first.ensures (c.count_ones.ensures ∙ part_count c.args.self.now.blocks.now _ _ (omega (arith, c.min-first.ensures)) (omega arith))
-    c.bound_of.ensures
+    c.count_ones_from_msb_and_lsb.ensures k edge top blocks S z (P.bits_are, P.bits_count)
+    (subst (λ (n : ℕ). Holds c.args.m k top blocks n edge S) (sym P.tops_count) H) el

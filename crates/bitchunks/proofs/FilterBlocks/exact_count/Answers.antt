@@ -1,10 +1,9 @@
--- `FilterBlocks::exact_count` meets its contract: the blocks hold the members that the top list has not.
-use native.Mathlib.Omega.{arith}
-use Rattle.bitchunks.proofs.Counts.{members_few, exact_is_lem}
+-- `FilterBlocks::exact_count` meets its contract: that of the top entries' number and the blocks.
+use mathlib.Core.Path.{sym, subst}
+use Prim.Native.Nat.{ℕ}
+use Rattle.sets.specs.Filter.{Holds}
 use Rattle.bitchunks.proofs.FilterBlocks.exact_count.Goals as goal
 
-pub overflow_add-result : goal.overflow_add-result
-overflow_add-result c = omega (arith, members_few _ _ _ c.count_ones.ensures)
-
 pub returns : goal.returns
-returns c m k count edge top blocks S z P H = exact_is_lem z P H _ c.count_ones.ensures
+returns c m k count edge top blocks S z P H =
+    c.exact_count.ensures m k edge top blocks S z (P.bits_are, P.bits_count) (subst (λ (n : ℕ). Holds m k top blocks n edge S) (sym P.tops_count) H)

@@ -1,17 +1,6 @@
--- `Text::put_decimal` meets its contract: the digits are found from the last to the first.
-use Rattle.encode.proofs.Decimals.{digits_left, digits_put, digits_turn}
-use Rattle.encode.proofs.Pieces.{puts_then}
+-- `Text::put_decimal` meets its contract: the piece is put where the text ends.
+use Rattle.encode.proofs.Pieces.{puts_to_text}
 use Rattle.encode.proofs.Text.put_decimal.Goals as goal
 
-pub overflow_sub-i : goal.overflow_sub-i
-overflow_sub-i g c = digits_left c.loop-rest.i c.loop-rest-test.true c.loop-rest.invariant
-
-pub loop-rest-preserved : goal.loop-rest-preserved
-loop-rest-preserved g c =
-    let l = c.loop-rest in
-    digits_turn l.i c.hex_digit.result c.loop-rest-test.true c.hex_digit.ensures l.invariant
-
 pub returns : goal.returns
-returns g c =
-    let l = c.loop-rest in
-    puts_then c.put.ensures (digits_put l.i c.hex_digit-2.result c.loop-rest-test.false c.hex_digit-2.ensures l.invariant c.put-2.ensures)
+returns g c = puts_to_text c.self.told c.self.invariant c.requires c.self.view_is c.put_decimal-self-inside.ensures

@@ -1,13 +1,6 @@
--- `Text::put_hex` meets its contract: a space, and a turn for each digit.
-use native.Mathlib.Omega.{arith}
-use Rattle.encode.proofs.Hex.{hex_end, hex_turn}
-use Rattle.encode.proofs.Pieces.{puts_then}
+-- `Text::put_hex` meets its contract: the piece is put where the text ends.
+use Rattle.encode.proofs.Pieces.{puts_to_text}
 use Rattle.encode.proofs.Text.put_hex.Goals as goal
 
-pub loop-i-preserved : goal.loop-i-preserved
-loop-i-preserved g c =
-    let l = c.loop-i in
-    hex_turn c.args.n l.i c.loop-i-test.true c.hex_digit.ensures l.invariant c.put-in-loop-i.ensures
-
 pub returns : goal.returns
-returns g c = puts_then c.put.ensures (hex_end c.args.n c.loop-i.i (omega arith) c.loop-i.invariant)
+returns g c = puts_to_text c.self.told c.self.invariant c.requires c.self.view_is c.put_hex-self-inside.ensures
